@@ -1,0 +1,4 @@
+pub mod Loops
+mod Bits
+pub mod Exact
+pub mod Lawful

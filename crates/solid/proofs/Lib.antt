@@ -1,0 +1,6 @@
+mod Tetrahedron
+mod Told
+mod Exact
+mod Reading
+mod Back
+mod Copies

@@ -1,0 +1,6 @@
+pub mod Integers
+pub mod Ring
+pub mod Order
+pub mod Bounds
+mod Wrapping
+mod Square
