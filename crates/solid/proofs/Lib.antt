@@ -3,4 +3,4 @@ mod Told
 mod Exact
 mod Reading
 mod Back
-mod Copies
+pub mod Copies
