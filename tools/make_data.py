@@ -1,10 +1,10 @@
-"""Writes captures, lawful and damaged, and the answers expected for them.
+"""Writes captures, lawful and damaged, and the answers expected for them, by
+the plain reference beside this file.
 
-    data/NAME.capture      the captures
-    args.txt               their names in order
-    expected_capture.txt   the answer for each
-    expected_damage.txt    for each lawful capture, how often each answer is
-                           given over changes of a single byte
+    crates/capture/data, args, stdout   the captures, their names in order, and
+                                        the line expected for each
+    crates/damage/data, args, stdout    the lawful ones, and how often each answer
+                                        is given over changes of a single byte
 """
 
 import math
@@ -14,7 +14,7 @@ from pathlib import Path
 
 from reference import capture, pack, refusal, rows, shared_pairs
 
-HERE = Path(__file__).resolve().parent
+CRATES = Path(__file__).resolve().parent.parent / "crates"
 
 WORDS = {
     1: "a capture has 10 to 622 bytes",
@@ -158,23 +158,29 @@ def damage(data):
     return f"{3 * len(data)} changes: accepted {tally[0]}, refused {refused}"
 
 
+def write(crate, captures, lines):
+    """The files that a program is run on, and what it must print."""
+    folder = CRATES / crate
+    (folder / "data").mkdir(exist_ok=True)
+    for name, data in captures:
+        (folder / "data" / name).write_bytes(data)
+    names = [line.split(":")[0] for line in lines]
+    (folder / "args").write_text("".join(name + "\n" for name in names), encoding="ascii")
+    (folder / "stdout").write_text("".join(line + "\n" for line in lines), encoding="ascii")
+
+
 def main():
-    (HERE / "data").mkdir(exist_ok=True)
-    names, answers, damages = [], [], []
+    captures, answers, damages = [], [], []
     for stem, data, expected in cases():
         assert refusal(data) == expected, (stem, refusal(data), expected)
-        name = f"data/{stem}.capture"
-        (HERE / name).write_bytes(data)
-        names.append(name)
+        name = f"{stem}.capture"
+        captures.append((name, data))
         answers.append(f"{name}: {answer(data)}")
         if not expected:
             damages.append(f"{name}: {damage(data)}")
-        print(f"{len(data):4} bytes, refusal {expected}: {stem}", flush=True)
-    for file, lines in (("args.txt", names), ("expected_capture.txt", answers),
-                        ("expected_damage.txt", damages)):
-        text = "".join(line + "\n" for line in lines)
-        (HERE / file).write_text(text, encoding="ascii")
-        print(f"\n{file}:\n{text}", end="")
+    answers.append("no-such.capture: cannot be read: No such file or directory (os error 2)")
+    write("capture", captures, answers)
+    write("damage", captures[:len(damages)], damages)
 
 
 if __name__ == "__main__":

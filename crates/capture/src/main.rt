@@ -6,12 +6,12 @@ use report::FindingDisplay;
 use report::examine;
 use report::line;
 use report::unreadable;
+use report::usage;
 use std::env;
+use std::error::AnyError;
 use std::fs::File;
 use std::io;
 use std::io::Read;
-
-const USAGE: &str = "usage: capture FILE ...";
 
 // Fills the buffer from a file's start, and says how many bytes came.
 fn first_bytes(rt: &LibcRuntime, name: &str, buffer: &mut [u8]) -> io::Result<usize>
@@ -43,16 +43,21 @@ fn line_of(rt: &LibcRuntime, name: &str) -> io::Result<String> {
     }
 }
 
-fn main(rt: LibcRuntime) -> io::Result<()> {
-    let mut names = env::args(&rt)?;
+// A line for each file that is named.
+fn run(rt: &LibcRuntime) -> Result<(), AnyError> {
+    let mut names = env::args(rt)?;
     let _program = names.next();
     let mut asked = false;
     for name in names {
         asked = true;
-        rt.println(line_of(&rt, name.as_str())?)?;
+        rt.println(line_of(rt, name.as_str())?)?;
     }
     if !asked {
-        rt.println(USAGE)?;
+        rt.println(usage())?;
     }
     Ok(())
+}
+
+fn main(rt: LibcRuntime) -> Result<(), AnyError> {
+    rt.report(run(&rt))
 }

@@ -7,3 +7,4 @@ pub use finding::FindingDisplay;
 pub use lines::examine;
 pub use lines::line;
 pub use lines::unreadable;
+pub use lines::usage;

@@ -45,6 +45,13 @@ pub fn examine(bytes: &[u8]) -> Finding
     }
 }
 
+// How the program is used.
+pub fn usage() -> &'static str
+    ensures { λ r. ⌜ now r ≡ codes "usage: capture FILE ..." ⌝ }
+{
+    "usage: capture FILE ..."
+}
+
 // The line of a file whose bytes were read.
 pub fn line(heap: Global, name: &str, finding: Finding) -> Result<String, AllocError>
     ensures { λ r. ⌜ made r (λ s. string-bytes s ≡ now (name .entry) ++ (codes ": " ++ words finding)) ⌝ }

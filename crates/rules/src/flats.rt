@@ -5,7 +5,7 @@ ghost use Prim.Native.Nat.{_<_};
 ghost use lib.ListN.{length};
 ghost use Rattle.vector.specs.Vectors.{negᵛ, within};
 ghost use Rattle.rules.specs.Tests.{every, some};
-ghost use Rattle.rules.specs.Rules.{in-reach, reaches, first-corner, faces, is-left-out, flat-lies};
+ghost use Rattle.rules.specs.Rules.{in-reach, faces, is-left-out, flat-lies};
 ghost use Rattle.rules.specs.Rules.{normal as normal-of, is-outward as outward-is, is-flat as flat-is, outward as outward-of, corner as corner-of};
 use crate::corners::corner;
 use crate::masks::lies;

@@ -1,6 +1,8 @@
 // Captures: reading one into a place, and saving the solid of a place.
 ghost use mathlib.Core.Path.{_≡_};
+ghost use mathlib.Core.Bool.{true};
 ghost use lib.ListN.{length, take};
+ghost use Rattle.std.specs.Results.{isErr};
 ghost use Rattle.std.specs.Vec.{made};
 ghost use Rattle.std.specs.declared.result.Result.the-variants.{Ok};
 ghost use Rattle.refusal.specs.Numbers.{told};
@@ -27,6 +29,7 @@ impl Solid {
     pub fn read(&mut self, bytes: &[u8]) -> Result<(), Refusal>
         ensures answer { λ r. ⌜ told r ≡ reply (reading (now (bytes .entry))) ⌝ }
         ensures place { λ r. ⌜ solid-rows (now (self .exit)) ≡ held (reading (now (bytes .entry))) (solid-rows (now (self .entry))) ⌝ }
+        ensures unchanged { λ r. ⌜ (isErr r ≡ true → now (self .exit) ≡ now (self .entry)) ⌝ }
         ensures again { λ r. ⌜ made r (λ _. capture (solid-rows (now (self .exit))) ≡ now (bytes .entry)) ⌝ }
     {
         *self = solid_of(bytes)?;

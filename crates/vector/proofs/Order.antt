@@ -1,6 +1,5 @@
 -- ℤ as an ordered ring: products of signs, an inequality multiplied, and a factor cancelled.
 -- Linear steps are `omega (arith, lin)`, with every product an unknown.
--- Assumes nothing.
 use mathlib.Core.Path.{_≡_, refl, sym, ap, _∙_}
 use mathlib.Core.Logic.{_⊎_, inl, inr}
 use mathlib.Core.List.{List, [], _∷_}

@@ -1,6 +1,5 @@
 -- Equations of polynomials over ℤ, by computing: `ring vs e f refl` proves `eval vs e ≡ eval vs f` where e and f have one normal form.
 -- A normal form is a list of terms, a coefficient with the sorted list of its variables, in the order of those lists and with no coefficient 0.
--- Assumes nothing.
 use mathlib.Core.Path.{_≡_, refl, sym, ap, _∙_, subst}
 use mathlib.Core.Bool.{Bool, true, false}
 use mathlib.Core.List.{List, [], _∷_, _++_}
