@@ -16,7 +16,11 @@ fn place(finding: Finding) -> usize
     ensures { λ r. ⌜ r < 10 ⌝ }
 {
     match finding {
-        Finding::Accepted { counts: _, saved: _, same: _ } => 0,
+        Finding::Accepted {
+            counts: _,
+            saved: _,
+            same: _,
+        } => 0,
         Finding::Refused(cause) => usize::from(cause.number()),
     }
 }
@@ -56,7 +60,10 @@ fn main(rt: LibcRuntime) -> io::Result<()> {
         let mut bytes = fs::read(&rt, name.as_str())?;
         let changes = bytes.len().saturating_mul(3);
         let [a, b, c, d, e, f, g, h, i, _] = tried(&mut bytes);
-        println!(rt, "{name}: {changes} changes: accepted {a}, refused 1: {b}, 2: {c}, 3: {d}, 4: {e}, 5: {f}, 6: {g}, 7: {h}, 8: {i}")?;
+        println!(
+            rt,
+            "{name}: {changes} changes: accepted {a}, refused 1: {b}, 2: {c}, 3: {d}, 4: {e}, 5: {f}, 6: {g}, 7: {h}, 8: {i}"
+        )?;
     }
     Ok(())
 }

@@ -10,7 +10,11 @@ use std::fmt;
 #[derive(Clone, Copy)]
 pub enum Finding {
     // A lawful capture: its counts, how many bytes it was saved as, and whether they are the bytes that were read.
-    Accepted { counts: Counts, saved: usize, same: bool },
+    Accepted {
+        counts: Counts,
+        saved: usize,
+        same: bool,
+    },
     Refused(Refusal),
 }
 
@@ -26,10 +30,21 @@ pub impl fmt::Display for Finding as FindingDisplay {
 
     fn fmt<W: fmt::Write>(&self, f: &mut fmt::Formatter<W>) -> fmt::Result {
         match *self {
-            Finding::Accepted { counts, saved, same } => {
-                let Counts { corners, flats, ridges } = counts;
+            Finding::Accepted {
+                counts,
+                saved,
+                same,
+            } => {
+                let Counts {
+                    corners,
+                    flats,
+                    ridges,
+                } = counts;
                 let verdict = compared(same);
-                write!(f, "accepted: {corners} corners, {flats} flats, {ridges} ridges; saved again: {saved} bytes, {verdict}")
+                write!(
+                    f,
+                    "accepted: {corners} corners, {flats} flats, {ridges} ridges; saved again: {saved} bytes, {verdict}"
+                )
             }
             Finding::Refused(cause) => {
                 let number = cause.number();

@@ -2,29 +2,35 @@
 use Prim.Native.Nat.{ℕ, zero, suc, _+_, _-_, _*_, _/_, _%_, _^_, _<_, _≤_}
 use mathlib.Core.Path.{_≡_, refl, sym, ap, _∙_}
 use mathlib.Core.Bool.{Bool, true, false, cond}
+use mathlib.Core.Logic.{_⊎_, inl, inr}
 use native.Mathlib.Omega.{arith}
 use lib.Bits.{bitAnd}
 use lib.Dec.{eqb}
-use Rattle.std.proofs.shelf.Bits.{and-mask, pow-add, pow-pos, div-below}
-use Rattle.std.proofs.shelf.Tests.{cond-both}
+use lib.Pow.{pow-mono}
+use Rattle.std.proofs.shelf.Bits.{and-mask, pow-pos, div-below}
+use Rattle.std.proofs.shelf.Tests.{both-ways, cases-lt, cond-both}
 use Rattle.rules.specs.Masks.{lies, lowest, next}
 
 pub bit : (k m : ℕ) → eqb (bitAnd (m / 2 ^ k) 1) 1 ≡ lies k m
 unfolding lies
 bit k m = ap (λ n. eqb n 1) (and-mask (m / 2 ^ k) 1)
 
-pub bit-past : (k m : ℕ) → m < 2 ^ 32 → 32 ≤ k → lies k m ≡ false
+-- a number below 2 ^ c has no bit from c on
+bit-none : (k m c : ℕ) → m < 2 ^ c → c ≤ k → lies k m ≡ false
 unfolding lies
-bit-past k m h l = ap (λ n. eqb (n % 2) 1) none
+bit-none k m c h l = ap (λ n. eqb (n % 2) 1) none
   where
-    e : 32 + (k - 32) ≡ k
-    e = omega arith
-
     wide : m < 1 * 2 ^ k
-    wide = omega (arith, ap (λ n. 2 ^ n) e, pow-add 2 32 (k - 32), pow-pos (k - 32))
+    wide = omega (arith, pow-mono l)
 
     none : m / 2 ^ k ≡ 0
     none = omega (arith, div-below m (2 ^ k) 1 (pow-pos k) wide)
+
+pub bit-past : (k m : ℕ) → m < 2 ^ 32 → 32 ≤ k → lies k m ≡ false
+bit-past k m h l = bit-none k m 32 h l
+
+pub bit-below : (k m c : ℕ) → m < 2 ^ c → lies k m ≡ true → k < c
+bit-below k m c h e = elim (cases-lt k c) [ inl l ↦ l | inr l ↦ absurd (both-ways (lies k m) (bit-none k m c h l) e) ]
 
 step : (k : ℕ) → k < 32 → 32 - k ≡ suc (32 - (k + 1))
 step k h = omega arith

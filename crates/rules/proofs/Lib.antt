@@ -2,3 +2,5 @@ pub mod Loops
 mod Bits
 pub mod Exact
 pub mod Lawful
+pub mod Facing
+pub mod Joined

@@ -5,7 +5,7 @@ use mathlib.Core.Bool.{Bool, true, false, cond, _&&_, _||_}
 use mathlib.Core.Logic.{_⊎_, inl, inr}
 use native.Mathlib.Omega.{arith}
 use native.Mathlib.Numerals.{add-one}
-use Rattle.std.proofs.shelf.Tests.{and-from, and-parts, and-left, and-right, or-from, or-left, or-right, cases-eq, cases-bool}
+use Rattle.std.proofs.shelf.Tests.{and-from, and-parts, and-left, and-right, or-from, or-cases, or-left, or-right, cases-eq, cases-bool, false≢true}
 use Rattle.rules.specs.Tests.{every, some, count}
 
 module _ (p : ℕ → Bool) where
@@ -54,6 +54,14 @@ module _ (p : ℕ → Bool) where
   unfolding some
   some-never zero h = refl
   some-never (suc n) h = or-from (some n p) (p n) (some-never n (λ k l. h k (omega arith))) (h n (omega arith))
+
+  pub some-at : (n : ℕ) → some n p ≡ true → (k : ℕ) × (k < n) × (p k ≡ true)
+  unfolding some
+  some-at zero e = absurd (false≢true e)
+  some-at (suc n) e = elim (or-cases (some n p) (p n) e) [
+    | inl q ↦ let r = some-at n q in (r .0, omega (arith, r .1), r .2)
+    | inr q ↦ (n, omega arith, q)
+  ]
 
   pub count-none : count 0 p ≡ 0
   unfolding count

@@ -1,3 +1,4 @@
 pub mod Tests
 pub mod Masks
 pub mod Rules
+pub mod Laws
