@@ -1,18 +1,18 @@
 -- The outward direction of a flat is outward, and its opposite is not.
 use Prim.Native.Nat.{ℕ}
-use mathlib.Core.Path.{_≡_, refl, sym, ap, _∙_}
+use mathlib.Core.Path.{_≡_, sym, ap, _∙_}
 use mathlib.Core.Bool.{true, false, not, _&&_, _||_}
-use mathlib.Core.List.{List, [], _∷_}
-use mathlib.Core.Logic.{_⊎_, inl, inr}
+use mathlib.Core.List.{List}
+use mathlib.Core.Logic.{inl, inr}
 use native.Mathlib.Omega.{arith}
-use lib.IntN.{ℤ, negℤ, negℤ-negℤ}
+use lib.IntN.{ℤ, negℤ}
 use lib.ListN.{length}
 use lib.Signed.{ltZ}
 use Rattle.std.proofs.shelf.Signed.{ints}
 use Rattle.std.proofs.shelf.Tests.{and-parts, or-cases, both-ways, not-true, cond-false, cond-both}
 use Rattle.vector.specs.declared.Vector.{Vector}
-use Rattle.vector.specs.Vectors.{vector, _·_, negᵛ, eqZ, is-zero}
-use Rattle.vector.proofs.Ring.{by-ring, quote}
+use Rattle.vector.specs.Vectors.{_·_, negᵛ, eqZ, is-zero}
+use Rattle.vector.proofs.Identities.{neg-dot, neg-neg}
 use Rattle.rules.specs.Tests.{some}
 use Rattle.rules.specs.Masks.{lies}
 use Rattle.rules.specs.Rules.{corner, first-corner, normal, faces, is-outward, is-left-out, is-flat, flat-lies, mask, outward}
@@ -21,18 +21,12 @@ use Rattle.rules.proofs.Loops.{every-at, every-fails, some-at}
 use Rattle.rules.proofs.Lawful.{kept}
 
 -- ---- opposites
-opposite-dot : (n c : Vector) → negᵛ n · c ≡ negℤ (n · c)
-opposite-dot n c = by-ring (n .x ∷ n .y ∷ n .z ∷ c .x ∷ c .y ∷ c .z ∷ []) (search quote depth 40 fits 20000) refl
-
-opposite-twice : (n : Vector) → negᵛ (negᵛ n) ≡ n
-opposite-twice n = λ i. vector (negℤ-negℤ (n .x) i) (negℤ-negℤ (n .y) i) (negℤ-negℤ (n .z) i)
-
 not-below : (a b : ℤ) → ltZ a b ≡ true → ltZ (negℤ a) (negℤ b) ≡ false
 not-below a b h = grind (arith, ints)
 
 -- a corner that is lower in a direction is not lower in the opposite one
 not-lower : (n c p : Vector) → ltZ (n · c) (n · p) ≡ true → ltZ (negᵛ n · c) (negᵛ n · p) ≡ false
-not-lower n c p h = (λ i. ltZ (opposite-dot n c i) (opposite-dot n p i)) ∙ not-below (n · c) (n · p) h
+not-lower n c p h = (λ i. ltZ (neg-dot n c i) (neg-dot n p i)) ∙ not-below (n · c) (n · p) h
 
 module _ (cs : List Vector) (m : ℕ) where
   -- a corner that is left out has to be lower
@@ -57,7 +51,7 @@ module _ (cs : List Vector) (m : ℕ) where
   other : (n : Vector) → (is-outward cs m n || is-outward cs m (negᵛ n)) ≡ true → is-outward cs m n ≡ false → One (negᵛ n)
   other n h e = elim (or-cases (is-outward cs m n) (is-outward cs m (negᵛ n)) h) [
     | inl t ↦ absurd (both-ways (is-outward cs m n) e t)
-    | inr t ↦ (t, ap (is-outward cs m) (opposite-twice n) ∙ e)
+    | inr t ↦ (t, ap (is-outward cs m) (neg-neg n) ∙ e)
   ]
 
   one-outward : is-flat cs m ≡ true → One (outward cs m)

@@ -1,14 +1,14 @@
 -- ℤ as an ordered ring: products of signs, an inequality multiplied, and a factor cancelled.
 -- Linear steps are `omega (arith, lin)`, with every product an unknown.
-use mathlib.Core.Path.{_≡_, refl, sym, ap, _∙_}
+use mathlib.Core.Path.{_≡_, refl}
 use mathlib.Core.Logic.{_⊎_, inl, inr}
-use mathlib.Core.List.{List, [], _∷_}
-use Prim.Native.Nat.{ℕ, zero, suc, _+_, _*_}
-use lib.IntN.{ℤ, pos, negsuc, negℤ, natAbs, _+ℤ_, _-ℤ_, _*ℤ_, ℤ-discrete}
+use mathlib.Core.List.{[], _∷_}
+use Prim.Native.Nat.{zero, suc, _+_, _*_}
+use lib.IntN.{ℤ, pos, negsuc, negℤ, _+ℤ_, _-ℤ_, _*ℤ_}
 use lib.Signed.{_≤ℤ_, _<ℤ_}
 use native.Mathlib.Omega.{arith}
 use borrow.Author.Differences.{same-out, apart-out, lt-out, le-out, same-in, below-in, at-most-in, sum-is, neg-is, abs-is}
-use Rattle.vector.proofs.Ring.{Exp, var, num, _⊕_, _⊗_, _⊝_, neg, ring}
+use Rattle.vector.proofs.Ring.{var, num, _⊕_, _⊗_, _⊝_, neg, ring}
 
 -- linear arithmetic over ℤ, with products as unknowns
 pub ruleset lin = (same-out, apart-out, lt-out, le-out, same-in, below-in, at-most-in, sum-is, neg-is, abs-is)
@@ -54,6 +54,15 @@ mul-strict k a b h l =
 pub times-nought : (k : ℤ) → k *ℤ pos 0 ≡ pos 0
 times-nought k = ring (k ∷ []) (var 0 ⊗ num (pos 0)) (num (pos 0)) refl
 
+pub one-times : (k : ℤ) → pos 1 *ℤ k ≡ k
+one-times k = ring (k ∷ []) (num (pos 1) ⊗ var 0) (var 0) refl
+
+pub nought-times : (k : ℤ) → pos 0 *ℤ k ≡ pos 0
+nought-times k = ring (k ∷ []) (num (pos 0) ⊗ var 0) (num (pos 0)) refl
+
+pub neg-times : (a b : ℤ) → negℤ a *ℤ b ≡ negℤ (a *ℤ b)
+neg-times a b = ring (a ∷ b ∷ []) (neg (var 0) ⊗ var 1) (neg (var 0 ⊗ var 1)) refl
+
 pub mul-pos : (a b : ℤ) → pos 0 <ℤ a → pos 0 <ℤ b → pos 0 <ℤ (a *ℤ b)
 mul-pos a b h k = omega (arith, lin, mul-strict a (pos 0) b h k, times-nought a)
 
@@ -83,7 +92,7 @@ cancel-nought k a h e = elim (sign a)
 
 pub cancel : (k a : ℤ) → ¬ (k ≡ pos 0) → k *ℤ a ≡ pos 0 → a ≡ pos 0
 cancel k a h e = elim (sign k) [
-  | minus q ↦ cancel-nought (negℤ k) a (omega (arith, lin)) (omega (arith, lin, e, ring (k ∷ a ∷ []) (neg (var 0) ⊗ var 1) (neg (var 0 ⊗ var 1)) refl))
+  | minus q ↦ cancel-nought (negℤ k) a (omega (arith, lin)) (omega (arith, lin, e, neg-times k a))
   | nought q ↦ absurd (h q)
   | plus q ↦ cancel-nought k a q e
 ]

@@ -1,12 +1,12 @@
 -- Equations of polynomials over ℤ, by computing: `ring vs e f refl` proves `eval vs e ≡ eval vs f` where e and f have one normal form.
 -- A normal form is a list of terms, a coefficient with the sorted list of its variables, in the order of those lists and with no coefficient 0.
 use mathlib.Core.Path.{_≡_, refl, sym, ap, _∙_, subst}
-use mathlib.Core.Bool.{Bool, true, false}
+use mathlib.Core.Bool.{true, false}
 use mathlib.Core.List.{List, [], _∷_, _++_}
 use Prim.Native.Nat.{ℕ, zero, suc, compare, Ordering, Ordering·lt, Ordering·eq, Ordering·gt}
 use lib.Dec.{T, ltb, eqb, eqb→eq, isEq}
 use lib.ListN.{getD}
-use lib.IntN.{ℤ, pos, negsuc, negℤ, one, _+ℤ_, _-ℤ_, _*ℤ_, +ℤ-assoc, +ℤ-comm, +ℤ-idl, +ℤ-idr, *ℤ-comm, *ℤ-one, zero-*ℤ}
+use lib.IntN.{ℤ, pos, negsuc, negℤ, one, _+ℤ_, _*ℤ_, +ℤ-assoc, +ℤ-comm, +ℤ-idl, +ℤ-idr, *ℤ-comm, *ℤ-one, zero-*ℤ}
 use native.Mathlib.Omega.{arith}
 use borrow.Author.Differences.{ints}
 use Rattle.vector.proofs.Integers.{*ℤ-assoc, *ℤ-+ℤ, +ℤ-*ℤ}

@@ -18,9 +18,17 @@ infixl 66 _⨯_
 abbrev pub _⨯_ : Vector → Vector → Vector
 a ⨯ b = vector (a .y *ℤ b .z -ℤ a .z *ℤ b .y) (a .z *ℤ b .x -ℤ a .x *ℤ b .z) (a .x *ℤ b .y -ℤ a .y *ℤ b .x)
 
-infixl 64 _-ᵛ_
+infixl 64 _+ᵛ_ _-ᵛ_
+abbrev pub _+ᵛ_ : Vector → Vector → Vector
+a +ᵛ b = vector (a .x +ℤ b .x) (a .y +ℤ b .y) (a .z +ℤ b .z)
+
 abbrev pub _-ᵛ_ : Vector → Vector → Vector
 a -ᵛ b = vector (a .x -ℤ b .x) (a .y -ℤ b .y) (a .z -ℤ b .z)
+
+-- a number times a vector
+infixr 67 _∗_
+abbrev pub _∗_ : ℤ → Vector → Vector
+k ∗ a = vector (k *ℤ a .x) (k *ℤ a .y) (k *ℤ a .z)
 
 -- the opposite
 abbrev pub negᵛ : Vector → Vector
