@@ -1,4 +1,4 @@
--- Each theorem at T and a cube.
+-- Cases of the theorems, most of them at T and a cube.
 use mathlib.Core.Path.{_≡_, refl, sym, ap, _∙_, subst}
 use mathlib.Core.Bool.{true}
 use mathlib.Core.Logic.{inl, inr}

@@ -1,4 +1,4 @@
--- The theorems at two small lists, with every number computed: the corners of the tetrahedron T and of a cube.
+-- Cases of the theorems, most of them at two small lists, the corners of the tetrahedron T and of a cube, with the numbers computed.
 use mathlib.Core.Path.{_≡_}
 use mathlib.Core.Bool.{true, false}
 use mathlib.Core.List.{List, [], _∷_, _++_}
@@ -126,7 +126,7 @@ pub record Bounds : Type 0 where
   pub far : let k = pos 10000 in det (vector k k k) (vector k (negℤ k) (negℤ k)) (vector (negℤ k) k (negℤ k)) (vector (negℤ k) (negℤ k) k) ≡ pos 16000000000000
   pub steep : whole 0 20000 20000 ⨯ vector (pos 0) (negℤ (pos 20000)) (pos 20000) ≡ whole 800000000 0 0
 
--- the edge of T from corner 0 to corner 3 lies in the faces −y and −z alone
+-- the edge of T from corner 0 to corner 3 lies in the faces −y and −z, and not in the face (1, 1, 1)
 pub record EdgeOfT : Type 0 where
   pub edge : Edge (vector (pos 0) (negsuc 0) (negsuc 0)) T
   pub faces : TwoFaces T (vector (pos 0) (negsuc 0) (negsuc 0)) edge

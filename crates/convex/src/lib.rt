@@ -137,7 +137,7 @@ pub fn edge_in_two_faces() -> u8
 }
 
 // ---- Examples.
-// Each theorem at T and a cube, with its numbers computed.
+// Cases of the theorems, most of them at T and a cube, with their numbers computed.
 pub fn examples_hold() -> u8
     ensures { λ _. ⌜ Examples ⌝ }
 {
