@@ -1,4 +1,6 @@
 // Bodies: what every kind of body answers, whatever its kind.
+#![tactic(auto)]
+
 mod along;
 mod body;
 mod bounds;

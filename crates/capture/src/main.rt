@@ -1,4 +1,6 @@
 // Checks capture files: reads each, checks it, saves it again and compares, and prints a line of it.
+#![tactic(auto)]
+
 ghost use Rattle.std.specs.Prelude.{◌≤◌, length, IfOk};
 
 use report::{examine, line, unreadable, usage};

@@ -1,5 +1,7 @@
 // Theorems about lists of corners with whole coordinates, for every list: when two share a rational point, and where a proof of it is found.
 // No function here computes anything: each one's contract is a theorem, and the crate is proved only with its proof.
+#![tactic(auto)]
+
 ghost use Rattle.convex.specs.Theorems.{ProductsAreReached, PlaneIsProof, MixtureIsProof, PointIsMixture, DirectionOrPoint, SpanningOrHeld, DirectionTiltsToFace, ShiftKeepsLaws, MirrorKeepsLaws, SumKeepsLaws};
 ghost use Rattle.convex.specs.Theorems.{MoreKeepsLaws, LineKeepsLaws, PlanesSuffice, PlanesTouch, FiveCornersSuffice, FiveCornersMix, PlaneOrFive, WeightsFit, PlanesFit, EdgeInTwoFaces};
 ghost use Rattle.convex.specs.Examples.{Examples};

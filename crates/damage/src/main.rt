@@ -1,4 +1,6 @@
 // A trial of damaged captures: every capture that differs from a given one in a single byte gets an answer.
+#![tactic(auto)]
+
 ghost use Rattle.std.specs.Prelude.{◌≡◌, ℕ, ◌<◌, ◌≤◌, length};
 
 use report::{Finding, examine};

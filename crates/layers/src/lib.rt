@@ -1,4 +1,6 @@
 // Layers over one body: the body shifted, and the body mirrored.
+#![tactic(auto)]
+
 mod mirrored;
 mod shifted;
 

@@ -1,4 +1,6 @@
 // Why a call is turned away: each cause has one number, and one line of words for people.
+#![tactic(auto)]
+
 ghost use Rattle.std.specs.Prelude.{◌≡◌, Some};
 ghost use Rattle.refusal.specs.Numbers.{number_of, words_of};
 

@@ -1,4 +1,6 @@
 // What is said of a capture file, a line each.
+#![tactic(auto)]
+
 mod finding;
 mod lines;
 

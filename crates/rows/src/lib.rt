@@ -1,4 +1,6 @@
 // The rows of a capture, and the capture's bytes: corner rows, flat rows, ridge rows and a trailer.
+#![tactic(auto)]
+
 mod access;
 mod counts;
 mod decode;

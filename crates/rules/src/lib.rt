@@ -1,4 +1,6 @@
 // The rules of a lawful solid, tested over the rows of a capture.
+#![tactic(auto)]
+
 mod corners;
 mod flats;
 mod laws;

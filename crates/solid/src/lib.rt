@@ -1,4 +1,6 @@
 // Solids: convex bodies from captures. A value of the type keeps the rules 3 to 8.
+#![tactic(auto)]
+
 mod ask;
 mod exchange;
 mod hold;

@@ -1,4 +1,6 @@
 // The sum of two bodies.
+#![tactic(auto)]
+
 mod listing;
 mod sum;
 

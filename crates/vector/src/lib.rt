@@ -1,4 +1,6 @@
 // Vectors of three whole numbers, in steps of 0.01 mm: corners, shifts and directions.
+#![tactic(auto)]
+
 ghost use Rattle.std.specs.Prelude.{◌≡◌, ◌-ℤ◌, ◌*ℤ◌};
 ghost use Rattle.std.specs.Int.{int_wrap, w64};
 ghost use Rattle.vector.specs.Vectors.{◌·◌, ◌⨯◌, ◌+ᵛ◌, ◌-ᵛ◌, negᵛ, is_zero, inside, within, least_of, greatest_of, at_most};
