@@ -8,7 +8,7 @@ pub loop-k-init : goal.loop-k-init
 loop-k-init c = sym (written_none c.args.at c.args.buffer.now)
 
 pub loop-k-preserved : goal.loop-k-preserved
-loop-k-preserved c = row_more four_bytes 4 (λ x. refl) c.args.at c.loop-k.k c.args.rows.now _ c.args.buffer.now c.loop-k.invariant c.put-flat.ensures (omega arith) (omega arith) (omega arith)
+loop-k-preserved c = row_more four_bytes 4 (λ x. refl) c.args.at c.loop-k.k c.args.rows.now _ c.args.buffer.now c.loop-k.invariant c.put_flat.ensures (omega arith) (omega arith) (omega arith)
 
 pub returns : goal.returns
 returns c = rows_all four_bytes c.args.at c.loop-k.k c.args.rows.now c.args.buffer.now (omega arith) c.loop-k.invariant

@@ -17,5 +17,5 @@ returns c =
     let bx = two_bytes c.low16.result in
     let by = two_bytes c.low16-2.result in
     let bz = two_bytes c.low16-3.result in
-    written_then at (at + 4) (bx ++ by) bz b (written_then at (at + 2) bx by b c.put-u16.ensures c.put-u16-2.ensures refl (omega arith)) c.put-u16-3.ensures refl (omega arith)
+    written_then at (at + 4) (bx ++ by) bz b (written_then at (at + 2) bx by b c.put_u16.ensures c.put_u16-2.ensures refl (omega arith)) c.put_u16-3.ensures refl (omega arith)
     ∙ (λ i. written at ((two_bytes (x i) ++ two_bytes (y i)) ++ two_bytes (z i)) b)

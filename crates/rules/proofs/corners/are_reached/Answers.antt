@@ -6,8 +6,8 @@ use Rattle.rules.proofs.corners.are_reached.Goals as goal
 pub loop-k-init : goal.loop-k-init
 loop-k-init c = every_none (reaches c.args.corners.now)
 
-pub returns-then-not-is-reached : goal.returns-then-not-is-reached
-returns-then-not-is-reached c = sym (every_fails (reaches c.args.corners.now) _ _ (omega arith) (sym c.is-reached.ensures ∙ c.if-not-is-reached.true))
+pub returns-then-not-is_reached : goal.returns-then-not-is_reached
+returns-then-not-is_reached c = sym (every_fails (reaches c.args.corners.now) _ _ (omega arith) (sym c.is_reached.ensures ∙ c.if-not-is_reached.true))
 
 pub loop-k-preserved : goal.loop-k-preserved
-loop-k-preserved c = every_more (reaches c.args.corners.now) _ c.loop-k.invariant (sym c.is-reached.ensures ∙ c.if-not-is-reached.false)
+loop-k-preserved c = every_more (reaches c.args.corners.now) _ c.loop-k.invariant (sym c.is_reached.ensures ∙ c.if-not-is_reached.false)

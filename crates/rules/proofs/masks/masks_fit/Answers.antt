@@ -6,8 +6,8 @@ use Rattle.rules.proofs.masks.masks_fit.Goals as goal
 pub loop-k-init : goal.loop-k-init
 loop-k-init c = every_none (mask_fits c.args.corners c.args.masks.now)
 
-pub returns-then-not-mask-fits : goal.returns-then-not-mask-fits
-returns-then-not-mask-fits c = sym (every_fails (mask_fits c.args.corners c.args.masks.now) _ _ (omega arith) (sym c.mask-fits.ensures ∙ c.if-not-mask-fits.true))
+pub returns-then-not-mask_fits : goal.returns-then-not-mask_fits
+returns-then-not-mask_fits c = sym (every_fails (mask_fits c.args.corners c.args.masks.now) _ _ (omega arith) (sym c.mask_fits.ensures ∙ c.if-not-mask_fits.true))
 
 pub loop-k-preserved : goal.loop-k-preserved
-loop-k-preserved c = every_more (mask_fits c.args.corners c.args.masks.now) _ c.loop-k.invariant (sym c.mask-fits.ensures ∙ c.if-not-mask-fits.false)
+loop-k-preserved c = every_more (mask_fits c.args.corners c.args.masks.now) _ c.loop-k.invariant (sym c.mask_fits.ensures ∙ c.if-not-mask_fits.false)

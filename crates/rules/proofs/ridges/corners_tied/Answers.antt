@@ -6,8 +6,8 @@ use Rattle.rules.proofs.ridges.corners_tied.Goals as goal
 pub loop-k-init : goal.loop-k-init
 loop-k-init c = every_none (is_tied c.args.masks.now)
 
-pub returns-then-not-is-tied : goal.returns-then-not-is-tied
-returns-then-not-is-tied c = sym (every_fails (is_tied c.args.masks.now) _ _ (omega arith) (sym c.is-tied.ensures ∙ c.if-not-is-tied.true))
+pub returns-then-not-is_tied : goal.returns-then-not-is_tied
+returns-then-not-is_tied c = sym (every_fails (is_tied c.args.masks.now) _ _ (omega arith) (sym c.is_tied.ensures ∙ c.if-not-is_tied.true))
 
 pub loop-k-preserved : goal.loop-k-preserved
-loop-k-preserved c = every_more (is_tied c.args.masks.now) _ c.loop-k.invariant (sym c.is-tied.ensures ∙ c.if-not-is-tied.false)
+loop-k-preserved c = every_more (is_tied c.args.masks.now) _ c.loop-k.invariant (sym c.is_tied.ensures ∙ c.if-not-is_tied.false)

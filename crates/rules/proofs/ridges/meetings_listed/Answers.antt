@@ -6,8 +6,8 @@ use Rattle.rules.proofs.ridges.meetings_listed.Goals as goal
 pub loop-g-init : goal.loop-g-init
 loop-g-init c = every_none (meeting_listed c.args.masks.now c.args.ridges.now c.args.h)
 
-pub returns-then-not-meeting-listed : goal.returns-then-not-meeting-listed
-returns-then-not-meeting-listed c = sym (every_fails (meeting_listed c.args.masks.now c.args.ridges.now c.args.h) _ _ (omega arith) (sym c.meeting_listed.ensures ∙ c.if-not-meeting-listed.true))
+pub returns-then-not-meeting_listed : goal.returns-then-not-meeting_listed
+returns-then-not-meeting_listed c = sym (every_fails (meeting_listed c.args.masks.now c.args.ridges.now c.args.h) _ _ (omega arith) (sym c.meeting_listed.ensures ∙ c.if-not-meeting_listed.true))
 
 pub loop-g-preserved : goal.loop-g-preserved
-loop-g-preserved c = every_more (meeting_listed c.args.masks.now c.args.ridges.now c.args.h) _ c.loop-g.invariant (sym c.meeting_listed.ensures ∙ c.if-not-meeting-listed.false)
+loop-g-preserved c = every_more (meeting_listed c.args.masks.now c.args.ridges.now c.args.h) _ c.loop-g.invariant (sym c.meeting_listed.ensures ∙ c.if-not-meeting_listed.false)

@@ -8,11 +8,11 @@ use Rattle.rules.proofs.ridges.meets_some.Goals as goal
 pub loop-g-init : goal.loop-g-init
 loop-g-init c = some_none (meets_before c.args.masks.now c.args.ridge c.args.h)
 
-pub returns-then-meets-before : goal.returns-then-meets-before
-returns-then-meets-before c = sym (some_found (meets_before c.args.masks.now c.args.ridge c.args.h) _ _ (omega arith) (sym c.meets_before.ensures ∙ c.if-meets-before.true))
+pub returns-then-meets_before : goal.returns-then-meets_before
+returns-then-meets_before c = sym (some_found (meets_before c.args.masks.now c.args.ridge c.args.h) _ _ (omega arith) (sym c.meets_before.ensures ∙ c.if-meets_before.true))
 
 pub loop-g-preserved : goal.loop-g-preserved
-loop-g-preserved c = some_more (meets_before c.args.masks.now c.args.ridge c.args.h) _ c.loop-g.invariant (sym c.meets_before.ensures ∙ c.if-meets-before.false)
+loop-g-preserved c = some_more (meets_before c.args.masks.now c.args.ridge c.args.h) _ c.loop-g.invariant (sym c.meets_before.ensures ∙ c.if-meets_before.false)
 
 pub returns-then-not-holds : goal.returns-then-not-holds
 returns-then-not-holds c =

@@ -6,8 +6,8 @@ use Rattle.rules.proofs.ridges.ridge_true.Goals as goal
 pub loop-h-init : goal.loop-h-init
 loop-h-init c = some_none (meets_some c.args.masks.now (ridge c.args.ridges.now c.args.k))
 
-pub returns-then-meets-some : goal.returns-then-meets-some
-returns-then-meets-some c = sym (some_found (meets_some c.args.masks.now (ridge c.args.ridges.now c.args.k)) _ _ (omega arith) (sym c.meets_some.ensures ∙ c.if-meets-some.true))
+pub returns-then-meets_some : goal.returns-then-meets_some
+returns-then-meets_some c = sym (some_found (meets_some c.args.masks.now (ridge c.args.ridges.now c.args.k)) _ _ (omega arith) (sym c.meets_some.ensures ∙ c.if-meets_some.true))
 
 pub loop-h-preserved : goal.loop-h-preserved
-loop-h-preserved c = some_more (meets_some c.args.masks.now (ridge c.args.ridges.now c.args.k)) _ c.loop-h.invariant (sym c.meets_some.ensures ∙ c.if-meets-some.false)
+loop-h-preserved c = some_more (meets_some c.args.masks.now (ridge c.args.ridges.now c.args.k)) _ c.loop-h.invariant (sym c.meets_some.ensures ∙ c.if-meets_some.false)

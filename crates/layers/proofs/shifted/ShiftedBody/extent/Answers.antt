@@ -2,10 +2,10 @@ use Rattle.std.proofs.Common.{sym, ◌∙◌}
 use Rattle.layers.proofs.Shifting.{extent_far, shift_extent}
 use Rattle.layers.proofs.shifted.ShiftedBody.extent.Goals as goal
 
-pub returns-then-not-is-within : goal.returns-then-not-is-within
-returns-then-not-is-within g c = extent_far c.args.self.now.by (g.B.Body.meaning c.args.self.now.body) (sym c.is-within.ensures ∙ c.if-not-is-within.true)
+pub returns-then-not-is_within : goal.returns-then-not-is_within
+returns-then-not-is_within g c = extent_far c.args.self.now.by (g.B.Body.meaning c.args.self.now.body) (sym c.is_within.ensures ∙ c.if-not-is_within.true)
 
 pub returns : goal.returns
 returns g c =
-    shift_extent c.args.self.now.by (g.B.Body.meaning c.args.self.now.body) (g.B.Body.sound c.args.self.now.body) (sym c.is-within.ensures ∙ c.if-not-is-within.false)
-    c.in-ok-extent.extent c.in-ok-extent.ensures c.shifted.result c.shifted.ensures _ c.within-reach.ensures
+    shift_extent c.args.self.now.by (g.B.Body.meaning c.args.self.now.body) (g.B.Body.sound c.args.self.now.body) (sym c.is_within.ensures ∙ c.if-not-is_within.false)
+    c.in_ok-extent.extent c.in_ok-extent.ensures c.shifted.result c.shifted.ensures _ c.within_reach.ensures

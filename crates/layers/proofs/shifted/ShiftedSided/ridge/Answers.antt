@@ -4,7 +4,7 @@ use Rattle.layers.proofs.shifted.ShiftedSided.ridge.Goals as goal
 
 pub returns : goal.returns
 returns g c =
-    let t = shift_told c.args.self.now.by (g.B.Body.meaning c.args.self.now.body) (g.B.Body.sound c.args.self.now.body) c.in-ok-extent.field-0 c.in-ok-extent.ensures in
+    let t = shift_told c.args.self.now.by (g.B.Body.meaning c.args.self.now.body) (g.B.Body.sound c.args.self.now.body) c.in_ok-extent.field-0 c.in_ok-extent.ensures in
     let s = g.B.Sided.sides c.args.self.now.body in
     record {
       answer = c.ridge.ensures.answer ∙ shift_ridge c.args.self.now.by (g.B.Body.meaning c.args.self.now.body) t s c.args.i;

@@ -4,9 +4,9 @@ use Rattle.layers.proofs.shifted.ShiftedSided.ridge_count.Goals as goal
 
 pub returns : goal.returns
 returns g c =
-    let t = shift_told c.args.self.now.by (g.B.Body.meaning c.args.self.now.body) (g.B.Body.sound c.args.self.now.body) c.in-ok-extent.field-0 c.in-ok-extent.ensures in
+    let t = shift_told c.args.self.now.by (g.B.Body.meaning c.args.self.now.body) (g.B.Body.sound c.args.self.now.body) c.in_ok-extent.field-0 c.in_ok-extent.ensures in
     let s = g.B.Sided.sides c.args.self.now.body in
     record {
-      answer = c.ridge-count.ensures.answer ∙ shift_ridge_count c.args.self.now.by (g.B.Body.meaning c.args.self.now.body) t s;
-      laws = shift_laws c.args.self.now.by (g.B.Body.meaning c.args.self.now.body) t s c.ridge-count.ensures.laws;
+      answer = c.ridge_count.ensures.answer ∙ shift_ridge_count c.args.self.now.by (g.B.Body.meaning c.args.self.now.body) t s;
+      laws = shift_laws c.args.self.now.by (g.B.Body.meaning c.args.self.now.body) t s c.ridge_count.ensures.laws;
     }

@@ -18,5 +18,5 @@ returns c =
     let b = c.args.buffer.now in
     let e = counts_are (rows_of t) t.counts (omega arith) (omega arith) (omega arith) in
     let l : size t.counts ≤ length b = omega arith in
-    let put = capture-written (rows_of t) t.counts e b l c.put-corners.ensures c.put-flats.ensures c.put-ridges.ensures c.put-trailer.ensures in
+    let put = capture-written (rows_of t) t.counts e b l c.put_corners.ensures c.put_flats.ensures c.put_ridges.ensures c.put_trailer.ensures in
     record { answer = saving_fits (rows_of t) t.counts b e l; bytes = put ∙ saved_fits (rows_of t) t.counts b e l; allowed = ap sizes e ∙ t.allowed }

@@ -6,13 +6,13 @@ use Rattle.solid.specs.Questions.{solid_rows}
 use Rattle.solid.specs.Reading.{reply, held}
 use Rattle.solid.proofs.hold.Solid.read.Goals as goal
 
-pub returns-in-err-self : goal.returns-in-err-self
-returns-in-err-self c =
-    let p = err_from_is_err_and c.from-residual.result c.from-residual.ensures.1 in
-    let e = c.in-err-self.ensures.answer in
+pub returns-in_err-self : goal.returns-in_err-self
+returns-in_err-self c =
+    let p = err_from_is_err_and c.from_residual.result c.from_residual.ensures.1 in
+    let e = c.in_err-self.ensures.answer in
     rw (p.1, p.2) record { answer = ap reply e; place = ap (λ (r : Result Rows ℕ). held r (solid_rows c.args.self.now)) e; unchanged = λ _. refl; again = tt }
 
 pub returns : goal.returns
 returns c =
-    let e = c.in-ok-self.ensures.answer in
-    record { answer = ap reply e; place = ap (λ (r : Result Rows ℕ). held r (solid_rows c.args.self.now)) e; unchanged = λ h. absurd (false≢true h); again = c.in-ok-self.ensures.again }
+    let e = c.in_ok-self.ensures.answer in
+    record { answer = ap reply e; place = ap (λ (r : Result Rows ℕ). held r (solid_rows c.args.self.now)) e; unchanged = λ h. absurd (false≢true h); again = c.in_ok-self.ensures.again }

@@ -4,20 +4,20 @@ use Rattle.sums.proofs.Corners.{told_by_extent}
 use Rattle.sums.proofs.Flats.{sum_laws, listing_few, listing_many}
 use Rattle.sums.proofs.sum.Sum.listing.Goals as goal
 
-pub returns-then-flats-gt-MOST-FLATS : goal.returns-then-flats-gt-MOST-FLATS
-returns-then-flats-gt-MOST-FLATS g c =
+pub returns-then-flats-gt-MOST_FLATS : goal.returns-then-flats-gt-MOST_FLATS
+returns-then-flats-gt-MOST_FLATS g c =
     let m = g.P.Body.meaning c.args.self.now.first in
     let o = g.Q.Body.meaning c.args.self.now.second in
     let a = g.P.Sided.sides c.args.self.now.first in
     let b = g.Q.Sided.sides c.args.self.now.second in
-    let t = told_by_extent m o (g.P.Body.sound c.args.self.now.first) (g.Q.Body.sound c.args.self.now.second) c.in-ok-extent.field-0 c.in-ok-extent.ensures in
+    let t = told_by_extent m o (g.P.Body.sound c.args.self.now.first) (g.Q.Body.sound c.args.self.now.second) c.in_ok-extent.field-0 c.in_ok-extent.ensures in
     record {
-      answer = listing_many m o t a b c.in-ok-first.first c.in-ok-second.second c.in-ok-first.ensures.answer c.in-ok-second.ensures.answer
-          (elim c.then-flats-gt-MOST-FLATS.branch [
-            | by-flats w ↦ inl w.if-flats-gt-MOST-FLATS.taken
-            | by-ridges w ↦ inr w.if-first-second-gt-MOST-RIDGES.taken
+      answer = listing_many m o t a b c.in_ok-first.first c.in_ok-second.second c.in_ok-first.ensures.answer c.in_ok-second.ensures.answer
+          (elim c.then-flats-gt-MOST_FLATS.branch [
+            | by-flats w ↦ inl w.if-flats-gt-MOST_FLATS.taken
+            | by-ridges w ↦ inr w.if-first-second-gt-MOST_RIDGES.taken
           ]);
-      laws = sum_laws m o t a b c.in-ok-first.ensures.laws c.in-ok-second.ensures.laws;
+      laws = sum_laws m o t a b c.in_ok-first.ensures.laws c.in_ok-second.ensures.laws;
     }
 
 pub returns : goal.returns
@@ -26,8 +26,8 @@ returns g c =
     let o = g.Q.Body.meaning c.args.self.now.second in
     let a = g.P.Sided.sides c.args.self.now.first in
     let b = g.Q.Sided.sides c.args.self.now.second in
-    let t = told_by_extent m o (g.P.Body.sound c.args.self.now.first) (g.Q.Body.sound c.args.self.now.second) c.in-ok-extent.field-0 c.in-ok-extent.ensures in
+    let t = told_by_extent m o (g.P.Body.sound c.args.self.now.first) (g.Q.Body.sound c.args.self.now.second) c.in_ok-extent.field-0 c.in_ok-extent.ensures in
     record {
-      answer = listing_few m o t a b c.in-ok-first.first c.in-ok-second.second c.in-ok-first.ensures.answer c.in-ok-second.ensures.answer c.if-flats-gt-MOST-FLATS.false c.if-first-second-gt-MOST-RIDGES.false;
-      laws = sum_laws m o t a b c.in-ok-first.ensures.laws c.in-ok-second.ensures.laws;
+      answer = listing_few m o t a b c.in_ok-first.first c.in_ok-second.second c.in_ok-first.ensures.answer c.in_ok-second.ensures.answer c.if-flats-gt-MOST_FLATS.false c.if-first-second-gt-MOST_RIDGES.false;
+      laws = sum_laws m o t a b c.in_ok-first.ensures.laws c.in_ok-second.ensures.laws;
     }

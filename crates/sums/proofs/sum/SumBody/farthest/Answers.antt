@@ -3,14 +3,14 @@ use Rattle.std.proofs.lemmas.Result.{err_from_is_err_and}
 use Rattle.sums.proofs.Corners.{told_by_extent, direction_refused, number_small, sum_farthest}
 use Rattle.sums.proofs.sum.SumBody.farthest.Goals as goal
 
-pub returns-in-err-i : goal.returns-in-err-i
-returns-in-err-i g c =
+pub returns-in_err-i : goal.returns-in_err-i
+returns-in_err-i g c =
     let m = g.P.Body.meaning c.args.self.now.first in
     let o = g.Q.Body.meaning c.args.self.now.second in
     let s = g.P.Body.sound c.args.self.now.first in
     let u = g.Q.Body.sound c.args.self.now.second in
-    let p = err_from_is_err_and c.from-residual-in-err-i.result c.from-residual-in-err-i.ensures.1 in
-    rw (p.1, p.2) (direction_refused m o s u (told_by_extent m o s u c.in-ok-extent.field-0 c.in-ok-extent.ensures) c.args.n _ c.in-err-i.ensures)
+    let p = err_from_is_err_and c.from_residual-in_err-i.result c.from_residual-in_err-i.ensures.1 in
+    rw (p.1, p.2) (direction_refused m o s u (told_by_extent m o s u c.in_ok-extent.field-0 c.in_ok-extent.ensures) c.args.n _ c.in_err-i.ensures)
 
 pub overflow-mul-result : goal.overflow-mul-result
 overflow-mul-result g c =
@@ -18,7 +18,7 @@ overflow-mul-result g c =
     let o = g.Q.Body.meaning c.args.self.now.second in
     let s = g.P.Body.sound c.args.self.now.first in
     let u = g.Q.Body.sound c.args.self.now.second in
-    let p = number_small m o s u (told_by_extent m o s u c.in-ok-extent.field-0 c.in-ok-extent.ensures) c.args.n c.in-ok-i.i c.in-ok-j.j c.in-ok-k.k c.in-ok-i.ensures c.in-ok-j.ensures c.in-ok-k.ensures in
+    let p = number_small m o s u (told_by_extent m o s u c.in_ok-extent.field-0 c.in_ok-extent.ensures) c.args.n c.in_ok-i.i c.in_ok-j.j c.in_ok-k.k c.in_ok-i.ensures c.in_ok-j.ensures c.in_ok-k.ensures in
     search rules
 
 pub overflow-add-result : goal.overflow-add-result
@@ -27,7 +27,7 @@ overflow-add-result g c =
     let o = g.Q.Body.meaning c.args.self.now.second in
     let s = g.P.Body.sound c.args.self.now.first in
     let u = g.Q.Body.sound c.args.self.now.second in
-    let p = number_small m o s u (told_by_extent m o s u c.in-ok-extent.field-0 c.in-ok-extent.ensures) c.args.n c.in-ok-i.i c.in-ok-j.j c.in-ok-k.k c.in-ok-i.ensures c.in-ok-j.ensures c.in-ok-k.ensures in
+    let p = number_small m o s u (told_by_extent m o s u c.in_ok-extent.field-0 c.in_ok-extent.ensures) c.args.n c.in_ok-i.i c.in_ok-j.j c.in_ok-k.k c.in_ok-i.ensures c.in_ok-j.ensures c.in_ok-k.ensures in
     search rules
 
 pub returns : goal.returns
@@ -36,4 +36,4 @@ returns g c =
     let o = g.Q.Body.meaning c.args.self.now.second in
     let s = g.P.Body.sound c.args.self.now.first in
     let u = g.Q.Body.sound c.args.self.now.second in
-    sum_farthest m o s u (told_by_extent m o s u c.in-ok-extent.field-0 c.in-ok-extent.ensures) c.args.n c.in-ok-i.i c.in-ok-j.j c.in-ok-k.k c.in-ok-i.ensures c.in-ok-j.ensures c.in-ok-k.ensures
+    sum_farthest m o s u (told_by_extent m o s u c.in_ok-extent.field-0 c.in_ok-extent.ensures) c.args.n c.in_ok-i.i c.in_ok-j.j c.in_ok-k.k c.in_ok-i.ensures c.in_ok-j.ensures c.in_ok-k.ensures

@@ -9,6 +9,6 @@ returns g c =
     let a = g.P.Sided.sides c.args.self.now.first in
     let b = g.Q.Sided.sides c.args.self.now.second in
     record {
-      answer = sum_flat_count m o (told_by_listing m o (g.P.Body.sound c.args.self.now.first) (g.Q.Body.sound c.args.self.now.second) a b c.in-ok-l.l c.in-ok-l.ensures.answer) a b c.in-ok-l.l (lists_told (sum_meaning m o) a b c.in-ok-l.l c.in-ok-l.ensures.answer);
-      laws = c.in-ok-l.ensures.laws;
+      answer = sum_flat_count m o (told_by_listing m o (g.P.Body.sound c.args.self.now.first) (g.Q.Body.sound c.args.self.now.second) a b c.in_ok-l.l c.in_ok-l.ensures.answer) a b c.in_ok-l.l (lists_told (sum_meaning m o) a b c.in_ok-l.l c.in_ok-l.ensures.answer);
+      laws = c.in_ok-l.ensures.laws;
     }
