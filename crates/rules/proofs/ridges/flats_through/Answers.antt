@@ -7,8 +7,8 @@ use Rattle.rules.proofs.ridges.flats_through.Goals.{then-lies, else-lies}
 pub loop-g-init : goal.loop-g-init
 loop-g-init c = sym (count_none (lies_in c.args.masks.now c.args.k))
 
-pub overflow-add-flats : goal.overflow-add-flats
-overflow-add-flats c = omega (arith, c.loop-g.invariant, count_most (lies_in c.args.masks.now c.args.k) c.loop-g.g)
+pub overflow_add-flats : goal.overflow_add-flats
+overflow_add-flats c = omega (arith, c.loop-g.invariant, count_most (lies_in c.args.masks.now c.args.k) c.loop-g.g)
 
 pub loop-g-preserved : goal.loop-g-preserved
 loop-g-preserved c =

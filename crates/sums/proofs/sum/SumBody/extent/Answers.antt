@@ -2,8 +2,8 @@ use Rattle.std.proofs.Common.{rules}
 use Rattle.sums.proofs.Corners.{product_small, too_many, sum_extent}
 use Rattle.sums.proofs.sum.SumBody.extent.Goals as goal
 
-pub overflow-mul-n : goal.overflow-mul-n
-overflow-mul-n g c =
+pub overflow_mul-n : goal.overflow_mul-n
+overflow_mul-n g c =
     let p = product_small (g.P.Body.meaning c.args.self.now.first) (g.Q.Body.meaning c.args.self.now.second) (g.P.Body.sound c.args.self.now.first) (g.Q.Body.sound c.args.self.now.second) c.in_ok-n.n c.in_ok-k.k c.in_ok-n.ensures c.in_ok-k.ensures in
     search rules
 

@@ -12,8 +12,8 @@ returns-in_err-i g c =
     let p = err_from_is_err_and c.from_residual-in_err-i.result c.from_residual-in_err-i.ensures.1 in
     rw (p.1, p.2) (direction_refused m o s u (told_by_extent m o s u c.in_ok-extent.field-0 c.in_ok-extent.ensures) c.args.n _ c.in_err-i.ensures)
 
-pub overflow-mul-result : goal.overflow-mul-result
-overflow-mul-result g c =
+pub overflow_mul-result : goal.overflow_mul-result
+overflow_mul-result g c =
     let m = g.P.Body.meaning c.args.self.now.first in
     let o = g.Q.Body.meaning c.args.self.now.second in
     let s = g.P.Body.sound c.args.self.now.first in
@@ -21,8 +21,8 @@ overflow-mul-result g c =
     let p = number_small m o s u (told_by_extent m o s u c.in_ok-extent.field-0 c.in_ok-extent.ensures) c.args.n c.in_ok-i.i c.in_ok-j.j c.in_ok-k.k c.in_ok-i.ensures c.in_ok-j.ensures c.in_ok-k.ensures in
     search rules
 
-pub overflow-add-result : goal.overflow-add-result
-overflow-add-result g c =
+pub overflow_add-result : goal.overflow_add-result
+overflow_add-result g c =
     let m = g.P.Body.meaning c.args.self.now.first in
     let o = g.Q.Body.meaning c.args.self.now.second in
     let s = g.P.Body.sound c.args.self.now.first in
