@@ -15,8 +15,8 @@ returns-in_err-check c =
     let p = err_from_is_err_and c.from_residual-in_err-check.result c.from_residual-in_err-check.ensures.1 in
     rw (p.1, p.2) record { answer = sym (refused_rows c.args.bytes.now (rows_of c.in_ok-tables.tables) _ (sym c.in_ok-tables.ensures.answer) (sym c.in_err-check.ensures)); again = tt }
 
-pub invariant-of-result : goal.invariant-of-result
-invariant-of-result c = (lawful_from_checking _ (sym c.in_ok-check.ensures), tt)
+pub invariant_of-result : goal.invariant_of-result
+invariant_of-result c = record { kept = lawful_from_checking _ (sym c.in_ok-check.ensures) }
 
 pub returns : goal.returns
 returns c = record {

@@ -3,5 +3,5 @@ use Rattle.rules.specs.Rules.{lawful}
 use Rattle.solid.proofs.Tetrahedron.{tetrahedron_lawful}
 use Rattle.solid.proofs.hold.Solid.new.Goals as goal
 
-pub invariant-of-result : goal.invariant-of-result
-invariant-of-result c = (ap lawful c.tetrahedron.ensures ∙ tetrahedron_lawful, tt)
+pub invariant_of-result : goal.invariant_of-result
+invariant_of-result c = record { kept = ap lawful c.tetrahedron.ensures ∙ tetrahedron_lawful }
