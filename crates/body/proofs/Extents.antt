@@ -2,7 +2,7 @@
 use Rattle.std.proofs.Common.{◌≡◌, ℕ, ◌≤◌, Bool, true, false, cond, ◌&&◌, List, [], ◌∷◌, ◌++◌, length, ℤ, pos, ◌+ℤ◌, neg_ℤ, ◌≤ℤ◌, Ok, Err, sym, refl, ap, ◌∙◌, subst, inl, inr, arith}
 use lib.Signed.{le_z}
 use Rattle.std.specs.Int.{int_min, int_max}
-use Rattle.std.specs.List.{AllByRecursion as All}
+use Rattle.std.specs.List.{AllByRecursion}
 use Rattle.std.proofs.lemmas.Int.{ints}
 use Rattle.std.proofs.lemmas.Bool.{and_parts, and_from, and_right, cases_Bool, both_ways, cond-true, cond-false}
 use Rattle.vector.specs.declared.Vector.{Vector}
@@ -33,7 +33,7 @@ along_z c = ring (env (c ∷ []) []) (record { x = num (pos 0); y = num (pos 0);
 
 -- ---- on one axis a, whose coordinate is p
 module _ (a : Vector) (p : Vector → ℤ) (e : (c : Vector) → a · c ≡ p c) (cs : List Vector) (some : 1 ≤ length cs) where
-  between_bounds : All (λ c. (least a cs ≤ℤ p c) × (p c ≤ℤ greatest a cs)) cs
+  between_bounds : AllByRecursion (λ c. (least a cs ≤ℤ p c) × (p c ≤ℤ greatest a cs)) cs
   between_bounds =
       let r = products_are_reached a cs some in
       all_from_in (λ c. (least a cs ≤ℤ p c) × (p c ≤ℤ greatest a cs)) cs (λ c h. (

@@ -1,6 +1,6 @@
 -- Entries of a list by their numbers, and of lists that are made of others.
 use Rattle.std.proofs.Common.{◌≡◌, ℕ, ◌+◌, ◌-◌, ◌<◌, ◌≤◌, ltb, List, ◌++◌, map, length, get_or, Ok, Err, Result, sym, ap, ◌∙◌, subst, inl, inr, arith}
-use Rattle.std.specs.List.{AllByRecursion as All}
+use Rattle.std.specs.List.{AllByRecursion}
 use Rattle.std.proofs.lemmas.List.{length-map, length-append, get_or-map, get_or_append_left, get_or-append-add}
 use Rattle.std.proofs.lemmas.Bool.{lt-ltb, le-ltb, cond-true, cond-false, cases_lt}
 use Rattle.vector.specs.declared.Vector.{Vector}
@@ -40,7 +40,7 @@ told_past L i e h = elim (cases_lt i (length L)) [
     number e p = cc
 
 -- what holds of all entries holds of one that was told
-pub told_all : (Q : Vector → Type 0) (L : List Vector) → All Q L → (i : ℕ) (v : Vector) → Ok v ≡ numbered L i → Q v
+pub told_all : (Q : Vector → Type 0) (L : List Vector) → AllByRecursion Q L → (i : ℕ) (v : Vector) → Ok v ≡ numbered L i → Q v
 told_all Q L a i v h = let t = told_entry L i v h in subst Q (sym t.1) (all_in Q L a (get_or L i 𝟎) (in_at L i t.0))
 
 -- ---- each entry changed

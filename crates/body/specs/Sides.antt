@@ -1,6 +1,6 @@
 -- The flats and ridges of a sided body: too many to be listed, or two lists, with the two laws that they keep over the corners.
 use Rattle.std.specs.Prelude.{◌≡◌, ℕ, ◌≤◌, true, cond, ◌&&◌, List, length, nat_le}
-use Rattle.std.specs.List.{AllByRecursion as All}
+use Rattle.std.specs.List.{AllByRecursion}
 use Rattle.vector.specs.declared.Vector.{Vector}
 use Rattle.vector.specs.Vectors.{within}
 use Rattle.convex.specs.Sides.{Sided}
@@ -15,8 +15,8 @@ pub data Sides : Type 0 where
 pub record Few (fs rs : List Vector) : Type 0 where
   pub flats : length fs ≤ 20000
   pub ridges : length rs ≤ 1000
-  pub flats_within : All (λ f. within 800000000 f ≡ true) fs
-  pub ridges_within : All (λ u. within 20000 u ≡ true) rs
+  pub flats_within : AllByRecursion (λ f. within 800000000 f ≡ true) fs
+  pub ridges_within : AllByRecursion (λ u. within 20000 u ≡ true) rs
 
 -- what has these flats and ridges: listed, or unlisted where they are too many
 abbrev pub sides_of : List Vector → List Vector → Sides

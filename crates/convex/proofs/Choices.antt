@@ -1,6 +1,6 @@
 -- A list with some members left out: of two lists joined it is one of each, and of a list of corners it is the corners of some rising numbers.
 use Rattle.std.proofs.Common.{◌≡◌, ℕ, suc, ◌<◌, List, [], ◌∷◌, ◌++◌, map, length, get_or, refl, ap, ◌∙◌, arith}
-use Rattle.std.specs.List.{AllByRecursion as All}
+use Rattle.std.specs.List.{AllByRecursion}
 use Rattle.vector.specs.declared.Vector.{Vector}
 use Rattle.vector.specs.Vectors.{𝟎}
 use Rattle.convex.specs.Fives.{RisingFrom, Choice, chosen}
@@ -52,7 +52,7 @@ from_rising : (lo : ℕ) (is : List ℕ) → RisingFrom lo is → RisingFrom 0 i
 from_rising lo [] r = tt
 from_rising lo (i ∷ is) r = (omega arith, r.1)
 
-next_within : (k : ℕ) (is : List ℕ) → All (λ i. i < k) is → All (λ i. i < suc k) (map suc is)
+next_within : (k : ℕ) (is : List ℕ) → AllByRecursion (λ i. i < k) is → AllByRecursion (λ i. i < suc k) (map suc is)
 next_within k [] a = tt
 next_within k (i ∷ is) a = (omega (arith, a.0), next_within k is a.1)
 

@@ -1,8 +1,8 @@
 -- The corners of two lists as the columns of one table: the rows are x, y, z and 1, and the entries of the second list's corners are turned.
 -- Its columns are full exactly where no plane holds the corners, and weights in it are weights on the corners with total 0 and sum 0.
-use Rattle.std.proofs.Common.{◌≡◌, zero, ◌+◌, Bool, true, false, List, [], ◌∷◌, ◌++◌, map, length, ℤ, pos, negsuc, ◌+ℤ◌, ◌*ℤ◌, neg_ℤ, sym, refl, ap, ◌∙◌, arith}
+use Rattle.std.proofs.Common.{◌≡◌, ◌+◌, Bool, true, false, List, [], ◌∷◌, ◌++◌, map, length, ℤ, pos, negsuc, ◌+ℤ◌, ◌*ℤ◌, neg_ℤ, sym, refl, ap, ◌∙◌, arith}
 use lib.IntN.{ℤ_discrete}
-use Rattle.std.specs.List.{AllByRecursion as All}
+use Rattle.std.specs.List.{AllByRecursion}
 use Rattle.std.proofs.lemmas.List.{length-append, length-map}
 use Rattle.vector.specs.declared.Vector.{Vector}
 use Rattle.vector.specs.Vectors.{vector, ◌·◌, 𝟎}
@@ -73,7 +73,7 @@ spanning_full S full w n k a = full u (some (ℤ_discrete w.x (pos 0)) (ℤ_disc
     some (yes p) (yes q) (no r) = record { x = _; rest = _; pick = there (there here); nonzero = r }
     some (yes p) (yes q) (yes r) = absurd (n (same_vector p q r))
 
-    balanced : (S : List Corner) → All (λ p. w · p ≡ k) (points S) → Balanced (λ c f. along f c) S rows u
+    balanced : (S : List Corner) → AllByRecursion (λ p. w · p ≡ k) (points S) → Balanced (λ c f. along f c) S rows u
     balanced [] a = tt
     balanced (c ∷ S) a = (
       column u c ∙ ap (λ t. side c.near *ℤ (t +ℤ neg_ℤ k)) a.0 ∙ ring (side c.near ∷ k ∷ []) (var 0 ⊗ (var 1 ⊕ neg (var 1))) (num (pos 0)) refl,
@@ -89,7 +89,7 @@ full_spanning S spanning u s b = go (vector_discrete w 𝟎) S spanning (on S b)
     d : ℤ
     d = u.1.1.1.0
 
-    on : (S : List Corner) → Balanced (λ c f. along f c) S rows u → All (λ p. w · p ≡ neg_ℤ d) (points S)
+    on : (S : List Corner) → Balanced (λ c f. along f c) S rows u → AllByRecursion (λ p. w · p ≡ neg_ℤ d) (points S)
     on [] b = tt
     on (c ∷ S) b = (opposite (w · c.point) d (side_cancel c.near (w · c.point +ℤ d) (sym (column u c) ∙ b.0)), on S b.1)
       where
@@ -103,7 +103,7 @@ full_spanning S spanning u s b = go (vector_discrete w 𝟎) S spanning (on S b)
     nothing e z (there (there (there here))) = z
     nothing e z (there (there (there (there q)))) = elim q [ ]
 
-    go : Dec (w ≡ 𝟎) → (S : List Corner) → Spanning (points S) → All (λ p. w · p ≡ neg_ℤ d) (points S) → ⊥
+    go : Dec (w ≡ 𝟎) → (S : List Corner) → Spanning (points S) → AllByRecursion (λ p. w · p ≡ neg_ℤ d) (points S) → ⊥
     go (no n) S f a = f w n (neg_ℤ d) a
     go (yes e) [] f a = f (vector (pos 1) (pos 0) (pos 0)) (λ z. absurd (omega (arith, lin, ap (λ (v : Vector). v.x) z))) (pos 0) tt
     go (yes e) (c ∷ S) f a = s.nonzero (nothing e (zero (w · c.point) d a.0 (ap (λ (v : Vector). v · c.point) e ∙ 𝟎-dot c.point)) s.pick)

@@ -1,6 +1,6 @@
 -- A direction's products over a list of vectors: none positive, all negative, and the list seen from one of its corners.
 use Rattle.std.proofs.Common.{◌≡◌, List, [], ◌∷◌, map, ℤ, pos, ◌-ℤ◌, ◌≤ℤ◌, ◌<ℤ◌, arith}
-use Rattle.std.specs.List.{AllByRecursion as All}
+use Rattle.std.specs.List.{AllByRecursion}
 use Rattle.vector.specs.declared.Vector.{Vector}
 use Rattle.vector.specs.Vectors.{◌·◌, ◌-ᵛ◌, 𝟎}
 use Rattle.vector.proofs.Order.{lin}
@@ -12,18 +12,18 @@ use Rattle.convex.proofs.Members.{all_in, all_from_in, in_map, from_map}
 
 -- no product is positive
 abbrev pub Weak : Vector → List Vector → Type 0
-Weak n L = All (λ v. (n · v) ≤ℤ pos 0) L
+Weak n L = AllByRecursion (λ v. (n · v) ≤ℤ pos 0) L
 
 -- every product is negative
 abbrev pub Strict : Vector → List Vector → Type 0
-Strict n L = All (λ v. (n · v) <ℤ pos 0) L
+Strict n L = AllByRecursion (λ v. (n · v) <ℤ pos 0) L
 
 pub weak_at : (m : Vector) (L : List Vector) → Weak m L → (v : Vector) → v ∈ L → (m · v) ≤ℤ pos 0
 weak_at m L = all_in (λ v. (m · v) ≤ℤ pos 0) L
 
 -- no plane through 0 holds all
 abbrev pub Round : List Vector → Type 0
-Round L = (w : Vector) → ¬ (w ≡ 𝟎) → ¬ (All (λ v. w · v ≡ pos 0) L)
+Round L = (w : Vector) → ¬ (w ≡ 𝟎) → ¬ (AllByRecursion (λ v. w · v ≡ pos 0) L)
 
 -- ---- a list seen from the corner q
 abbrev pub seen : Vector → List Vector → List Vector
@@ -36,7 +36,7 @@ pub from_seen : (q : Vector) (P : List Vector) (v : Vector) → v ∈ seen q P �
 from_seen q P v h = from_map (λ p. p -ᵛ q) P v h
 
 -- from a corner with the greatest product, no product is positive
-pub weak_seen : (n q : Vector) (P : List Vector) → All (λ p. (n · p) ≤ℤ (n · q)) P → Weak n (seen q P)
+pub weak_seen : (n q : Vector) (P : List Vector) → AllByRecursion (λ p. (n · p) ≤ℤ (n · q)) P → Weak n (seen q P)
 weak_seen n q [] a = tt
 weak_seen n q (p ∷ P) a = (scalar (n · p) (n · q) (n · (p -ᵛ q)) (dot-minus n p q) a.0, weak_seen n q P a.1)
   where

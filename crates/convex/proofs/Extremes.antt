@@ -1,7 +1,7 @@
 -- The greatest and the least product over lists that are made of others: one corner more, shifted, mirrored, and sums.
 use Rattle.std.proofs.Common.{◌≡◌, ◌≤◌, List, [], ◌∷◌, ◌++◌, map, length, ℤ, pos, ◌+ℤ◌, neg_ℤ, ◌≤ℤ◌, refl, ap, ◌∙◌, arith}
 use Rattle.std.specs.Int.{int_min, int_max}
-use Rattle.std.specs.List.{AllByRecursion as All}
+use Rattle.std.specs.List.{AllByRecursion}
 use Rattle.std.proofs.lemmas.Int.{clamps}
 use Rattle.std.proofs.ByRecursion.{All-weaker}
 use Rattle.vector.specs.declared.Vector.{Vector}
@@ -19,16 +19,16 @@ pub below_greatest : (n : Vector) (cs : List Vector) (c : Vector) → c ∈ cs �
 below_greatest n [] c h = absurd h
 below_greatest n (d ∷ cs) c h = all_in (λ c. (n · c) ≤ℤ greatest n (d ∷ cs)) (d ∷ cs) (greatest_bounds n d cs) c h
 
-pub greatest_is : (n : Vector) (cs : List Vector) (k : ℤ) → All (λ d. (n · d) ≤ℤ k) cs → (c : Vector) → c ∈ cs → n · c ≡ k → greatest n cs ≡ k
+pub greatest_is : (n : Vector) (cs : List Vector) (k : ℤ) → AllByRecursion (λ d. (n · d) ≤ℤ k) cs → (c : Vector) → c ∈ cs → n · c ≡ k → greatest n cs ≡ k
 greatest_is n [] k a c h e = absurd h
 greatest_is n (d ∷ cs) k a c h e =
     let (b, i, r) = greatest_reached n d cs in
     omega (arith, lin, all_in (λ d. (n · d) ≤ℤ k) (d ∷ cs) a b i, below_greatest n (d ∷ cs) c h)
 
-pub least_is : (n : Vector) (cs : List Vector) (k : ℤ) → All (λ d. k ≤ℤ (n · d)) cs → (c : Vector) → c ∈ cs → n · c ≡ k → least n cs ≡ k
+pub least_is : (n : Vector) (cs : List Vector) (k : ℤ) → AllByRecursion (λ d. k ≤ℤ (n · d)) cs → (c : Vector) → c ∈ cs → n · c ≡ k → least n cs ≡ k
 least_is n cs k a c h e = omega (arith, lin, least_opposite n cs, greatest_is (negᵛ n) cs (neg_ℤ k) opposite c h (omega (arith, lin, neg-dot n c)))
   where
-    opposite : All (λ d. (negᵛ n · d) ≤ℤ neg_ℤ k) cs
+    opposite : AllByRecursion (λ d. (negᵛ n · d) ≤ℤ neg_ℤ k) cs
     opposite = All-weaker (λ d. k ≤ℤ (n · d)) (λ d. (negᵛ n · d) ≤ℤ neg_ℤ k) (λ d h. omega (arith, lin, neg-dot n d)) cs a
 
 -- ---- one corner more

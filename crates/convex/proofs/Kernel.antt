@@ -2,14 +2,14 @@
 -- A table T : F → A → ℤ has rows in F and columns in A; weights on columns balance a row whose entries, each times the weight of its column, add up to 0.
 use Rattle.std.proofs.Common.{◌≡◌, suc, ◌<◌, ◌⊎◌, List, [], ◌∷◌, length, ℤ, pos, ◌+ℤ◌, ◌*ℤ◌, neg_ℤ, sym, refl, ap, ◌∙◌, inl, inr, arith}
 use lib.IntN.{ℤ_discrete}
-use Rattle.std.specs.List.{AllByRecursion as All}
+use Rattle.std.specs.List.{AllByRecursion}
 use Rattle.std.proofs.ByRecursion.{All-weaker}
 use Rattle.vector.proofs.Ring.{var, num, ◌⊕◌, ◌⊗◌, neg, ring}
 use Rattle.vector.proofs.Order.{lin, cancel, one_times, nought_times, neg-times}
 
 -- a number for each member
 abbrev pub Weights : {A : Type 0} → List A → Type 0
-Weights X = All (λ _. ℤ) X
+Weights X = AllByRecursion (λ _. ℤ) X
 
 -- the sum of f over the members, each times its weight
 abbrev pub weigh : {A : Type 0} (X : List A) → (A → ℤ) → Weights X → ℤ
@@ -82,13 +82,13 @@ weigh_two (x ∷ X) f g c d w =
     (var 0 ⊗ (var 2 ⊗ var 3 ⊕ var 5) ⊕ var 1 ⊗ (var 2 ⊗ var 4 ⊕ var 6)) refl
 
 -- the sum of a function that is 0 at every member
-pub weigh_none : {A : Type 0} (f : A → ℤ) (X : List A) (w : Weights X) → All (λ x. f x ≡ pos 0) X → weigh X f w ≡ pos 0
+pub weigh_none : {A : Type 0} (f : A → ℤ) (X : List A) (w : Weights X) → AllByRecursion (λ x. f x ≡ pos 0) X → weigh X f w ≡ pos 0
 weigh_none f [] w a = refl
 weigh_none f (x ∷ X) w a = (λ i. w.0 *ℤ a.0 i +ℤ weigh_none f X w.1 a.1 i) ∙ ring (w.0 ∷ []) (var 0 ⊗ num (pos 0) ⊕ num (pos 0)) (num (pos 0)) refl
 
 -- ---- weights that balance every row
 abbrev pub Balanced : {A F : Type 0} → (F → A → ℤ) → List F → (X : List A) → Weights X → Type 0
-Balanced T Fs X w = All (λ f. weigh X (T f) w ≡ pos 0) Fs
+Balanced T Fs X w = AllByRecursion (λ f. weigh X (T f) w ≡ pos 0) Fs
 
 pub mix_balanced : {A F : Type 0} (T : F → A → ℤ) (Fs : List F) (X : List A) (k : ℤ) (w : Weights X) (l : ℤ) (v : Weights X)
     → Balanced T Fs X w → Balanced T Fs X v → Balanced T Fs X (mix X k w l v)
@@ -139,12 +139,12 @@ pub record Kernel {A F : Type 0} (T : F → A → ℤ) (Fs : List F) (X : List A
   pub balanced : Balanced T Fs X weights
 
 -- a column at which the row is not 0, or none
-pivot : {A : Type 0} (f : A → ℤ) (X : List A) → ((x : A) × (Y : List A) × Pick x X Y × ¬ (f x ≡ pos 0)) ⊎ All (λ x. f x ≡ pos 0) X
+pivot : {A : Type 0} (f : A → ℤ) (X : List A) → ((x : A) × (Y : List A) × Pick x X Y × ¬ (f x ≡ pos 0)) ⊎ AllByRecursion (λ x. f x ≡ pos 0) X
 pivot f [] = inr tt
 pivot {A} f (x ∷ X) = go (ℤ_discrete (f x) (pos 0)) (pivot f X)
   where
-    go : Dec (f x ≡ pos 0) → ((y : A) × (Y : List A) × Pick y X Y × ¬ (f y ≡ pos 0)) ⊎ All (λ x. f x ≡ pos 0) X
-        → ((y : A) × (Y : List A) × Pick y (x ∷ X) Y × ¬ (f y ≡ pos 0)) ⊎ All (λ x. f x ≡ pos 0) (x ∷ X)
+    go : Dec (f x ≡ pos 0) → ((y : A) × (Y : List A) × Pick y X Y × ¬ (f y ≡ pos 0)) ⊎ AllByRecursion (λ x. f x ≡ pos 0) X
+        → ((y : A) × (Y : List A) × Pick y (x ∷ X) Y × ¬ (f y ≡ pos 0)) ⊎ AllByRecursion (λ x. f x ≡ pos 0) (x ∷ X)
     go (no h) r = inl (x, X, here, h)
     go (yes h) (inl r) = inl (r.0, x ∷ r.1, there r.2, r.3)
     go (yes h) (inr r) = inr (h, r)
@@ -190,7 +190,7 @@ kernel T [] [] h = absurd (omega arith)
 kernel T [] (x ∷ X) h = record { weights = (pos 1, nothing X); some = record { x = x; rest = X; pick = here; nonzero = λ e. absurd (omega (arith, lin)) }; balanced = tt }
 kernel {A} {F} T (f ∷ Fs) X h = go (pivot (T f) X) (kernel T Fs X (omega arith)) (λ x Y l. kernel (reduced T f x) Fs Y l)
   where
-    go : ((x : A) × (Y : List A) × Pick x X Y × ¬ (T f x ≡ pos 0)) ⊎ All (λ x. T f x ≡ pos 0) X → Kernel T Fs X
+    go : ((x : A) × (Y : List A) × Pick x X Y × ¬ (T f x ≡ pos 0)) ⊎ AllByRecursion (λ x. T f x ≡ pos 0) X → Kernel T Fs X
         → ((x : A) (Y : List A) → length Fs < length Y → Kernel (reduced T f x) Fs Y) → Kernel T (f ∷ Fs) X
     go (inr a) k r = record { weights = k.weights; some = k.some; balanced = (weigh_none (T f) X k.weights a, k.balanced) }
     go (inl p) k r = by_pivot T f Fs p.2 p.3 (r p.0 p.1 (omega (arith, length_pick p.2)))
@@ -212,7 +212,7 @@ exchange T Fs (x ∷ X) u w =
     ∙ sym (weigh_two Fs (λ f. T f x) (λ f. weigh X (T f) w.1) w.0 (pos 1) u)
     ∙ (λ i. weigh Fs (λ f. w.0 *ℤ T f x +ℤ one_times (weigh X (T f) w.1) i) u)
 
-all_put : {A : Type 0} (Q : A → Type 0) {y : A} {X Y : List A} → Pick y X Y → Q y → All Q Y → All Q X
+all_put : {A : Type 0} (Q : A → Type 0) {y : A} {X Y : List A} → Pick y X Y → Q y → AllByRecursion Q Y → AllByRecursion Q X
 all_put Q here h a = (h, a)
 all_put Q (there q) h a = (a.0, all_put Q q h a.1)
 

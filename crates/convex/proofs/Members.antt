@@ -1,17 +1,17 @@
 -- Members of a list of vectors: what holds of all holds of each, a search through a list, and the members of lists made of others.
 use Rattle.std.proofs.Common.{◌≡◌, ℕ, zero, suc, ◌<◌, ◌⊎◌, List, [], ◌∷◌, ◌++◌, map, length, get_or, sym, refl, ap, subst, inl, inr, arith}
-use Rattle.std.specs.List.{AllByRecursion as All}
+use Rattle.std.specs.List.{AllByRecursion}
 use Rattle.vector.specs.declared.Vector.{Vector}
 use Rattle.vector.specs.Vectors.{◌+ᵛ◌, 𝟎}
 use Rattle.convex.specs.Points.{◌∈◌}
 use Rattle.convex.specs.Sides.{sums}
 
-pub all_in : (Q : Vector → Type 0) (L : List Vector) → All Q L → (v : Vector) → v ∈ L → Q v
+pub all_in : (Q : Vector → Type 0) (L : List Vector) → AllByRecursion Q L → (v : Vector) → v ∈ L → Q v
 all_in Q [] a v h = absurd h
 all_in Q (u ∷ L) a v (inl e) = subst Q (sym e) a.0
 all_in Q (u ∷ L) a v (inr h) = all_in Q L a.1 v h
 
-pub all_from_in : (Q : Vector → Type 0) (L : List Vector) → ((v : Vector) → v ∈ L → Q v) → All Q L
+pub all_from_in : (Q : Vector → Type 0) (L : List Vector) → ((v : Vector) → v ∈ L → Q v) → AllByRecursion Q L
 all_from_in Q [] f = tt
 all_from_in Q (u ∷ L) f = (f u (inl refl), all_from_in Q L (λ v h. f v (inr h)))
 
@@ -22,11 +22,11 @@ in_at (u ∷ L) zero h = inl refl
 in_at (u ∷ L) (suc k) h = inr (in_at L k (omega arith))
 
 -- a member with Q, or none
-pub find : (Q : Vector → Type 0) → ((v : Vector) → Dec (Q v)) → (L : List Vector) → ((v : Vector) × v ∈ L × Q v) ⊎ All (λ v. ¬ (Q v)) L
+pub find : (Q : Vector → Type 0) → ((v : Vector) → Dec (Q v)) → (L : List Vector) → ((v : Vector) × v ∈ L × Q v) ⊎ AllByRecursion (λ v. ¬ (Q v)) L
 find Q d [] = inr tt
 find Q d (u ∷ L) = go (d u) (find Q d L)
   where
-    go : Dec (Q u) → ((v : Vector) × v ∈ L × Q v) ⊎ All (λ v. ¬ (Q v)) L → ((v : Vector) × v ∈ (u ∷ L) × Q v) ⊎ All (λ v. ¬ (Q v)) (u ∷ L)
+    go : Dec (Q u) → ((v : Vector) × v ∈ L × Q v) ⊎ AllByRecursion (λ v. ¬ (Q v)) L → ((v : Vector) × v ∈ (u ∷ L) × Q v) ⊎ AllByRecursion (λ v. ¬ (Q v)) (u ∷ L)
     go (yes q) r = inl (u, inl refl, q)
     go (no q) (inl r) = inl (r.0, inr r.1, r.2)
     go (no q) (inr r) = inr (q, r)
@@ -46,15 +46,15 @@ in_either [] Y v h = inr h
 in_either (x ∷ X) Y v (inl e) = inl (inl e)
 in_either (x ∷ X) Y v (inr h) = elim (in_either X Y v h) [ inl k ↦ inl (inr k) | inr k ↦ inr k ]
 
-pub all_left : {A : Type 0} (Q : A → Type 0) (X Y : List A) → All Q (X ++ Y) → All Q X
+pub all_left : {A : Type 0} (Q : A → Type 0) (X Y : List A) → AllByRecursion Q (X ++ Y) → AllByRecursion Q X
 all_left Q [] Y a = tt
 all_left Q (x ∷ X) Y a = (a.0, all_left Q X Y a.1)
 
-pub all_right : {A : Type 0} (Q : A → Type 0) (X Y : List A) → All Q (X ++ Y) → All Q Y
+pub all_right : {A : Type 0} (Q : A → Type 0) (X Y : List A) → AllByRecursion Q (X ++ Y) → AllByRecursion Q Y
 all_right Q [] Y a = a
 all_right Q (x ∷ X) Y a = all_right Q X Y a.1
 
-pub all_both : {A : Type 0} (Q : A → Type 0) (X Y : List A) → All Q X → All Q Y → All Q (X ++ Y)
+pub all_both : {A : Type 0} (Q : A → Type 0) (X Y : List A) → AllByRecursion Q X → AllByRecursion Q Y → AllByRecursion Q (X ++ Y)
 all_both Q [] Y a b = b
 all_both Q (x ∷ X) Y a b = (a.0, all_both Q X Y a.1 b)
 

@@ -1,7 +1,7 @@
 -- Five corners that yield a mixture are one: with the absolute determinants as weights, both sides have one total, at least 1, and one sum.
 use Rattle.std.proofs.Common.{◌≡◌, ℕ, ◌+◌, ◌<◌, ◌≤◌, Bool, true, false, not, List, [], ◌∷◌, ◌++◌, length, get_or, take, drop, ℤ, pos, ◌+ℤ◌, ◌*ℤ◌, nat_abs, ◌≤ℤ◌, sym, refl, ap, ◌∙◌, subst, inl, inr, arith}
 use lib.ListN.{length-map}
-use Rattle.std.specs.List.{AllByRecursion as All}
+use Rattle.std.specs.List.{AllByRecursion}
 use Rattle.std.proofs.lemmas.Int.{ints}
 use Rattle.std.proofs.ByRecursion.{All-map}
 use Rattle.std.proofs.lemmas.List.{take-append-drop, length-take, length-drop, length-append}
@@ -93,7 +93,7 @@ entries_of cs (i ∷ is) (d ∷ ds) h =
     let r = entries_of cs is ds (omega arith) in
     (ap (λ t. nat_abs d + t) r.0, ap (λ (t : Vector). pos (nat_abs d) ∗ get_or cs i 𝟎 +ᵛ t) r.1)
 
-entries_within : (k : ℕ) (is : List ℕ) (ds : List ℤ) → All (λ i. i < k) is → All (λ e. e.corner < k) (entries is ds)
+entries_within : (k : ℕ) (is : List ℕ) (ds : List ℤ) → AllByRecursion (λ i. i < k) is → AllByRecursion (λ e. e.corner < k) (entries is ds)
 entries_within k [] ds h = tt
 entries_within k (i ∷ is) [] h = tt
 entries_within k (i ∷ is) (d ∷ ds) h = (h.0, entries_within k is ds h.1)

@@ -1,6 +1,6 @@
 -- A mixture is a shared point: the weights of its entries, added up corner by corner, are the weights of a point of both lists; and back.
 use Rattle.std.proofs.Common.{◌≡◌, ℕ, zero, suc, ◌+◌, ◌<◌, ◌≤◌, List, [], ◌∷◌, map, length, get_or, pos, nat_abs, ◌<ℤ◌, sym, refl, ap, ◌∙◌, subst, arith}
-use Rattle.std.specs.List.{AllByRecursion as All}
+use Rattle.std.specs.List.{AllByRecursion}
 use Rattle.vector.specs.declared.Vector.{Vector}
 use Rattle.vector.specs.Vectors.{◌+ᵛ◌, ◌∗◌, 𝟎}
 use Rattle.vector.proofs.Ring.{var, ◌⊕◌}
@@ -53,7 +53,7 @@ none_on (c ∷ cs) = let r = none_on cs in record {
   same_sum = no_times c (weighted r.weights cs) ∙ r.same_sum;
 }
 
-spread : (cs : List Vector) (es : List Entry) → All (λ e. e.corner < length cs) es → Spread cs es
+spread : (cs : List Vector) (es : List Entry) → AllByRecursion (λ e. e.corner < length cs) es → Spread cs es
 spread cs [] h = none_on cs
 spread cs (e ∷ es) h = let r = spread cs es h.1 in record {
   weights = more_at e.corner e.weight r.weights;
@@ -86,7 +86,7 @@ next_sum : (c : Vector) (cs : List Vector) (es : List Entry) → entries_sum (c 
 next_sum c cs [] = refl
 next_sum c cs (e ∷ es) = ap (λ (t : Vector). pos e.weight ∗ get_or cs e.corner 𝟎 +ᵛ t) (next_sum c cs es)
 
-next_within : (k : ℕ) (es : List Entry) → All (λ e. e.corner < k) es → All (λ e. e.corner < suc k) (map next es)
+next_within : (k : ℕ) (es : List Entry) → AllByRecursion (λ e. e.corner < k) es → AllByRecursion (λ e. e.corner < suc k) (map next es)
 next_within k [] h = tt
 next_within k (e ∷ es) h = (omega (arith, h.0), next_within k es h.1)
 
@@ -99,7 +99,7 @@ numbered-sum [] cs h = refl
 numbered-sum (w ∷ ws) [] h = absurd (omega arith)
 numbered-sum (w ∷ ws) (c ∷ cs) h = ap (λ (t : Vector). pos w ∗ c +ᵛ t) (next_sum c cs (numbered ws) ∙ numbered-sum ws cs (omega arith))
 
-numbered_within : (ws : List ℕ) (k : ℕ) → length ws ≡ k → All (λ e. e.corner < k) (numbered ws)
+numbered_within : (ws : List ℕ) (k : ℕ) → length ws ≡ k → AllByRecursion (λ e. e.corner < k) (numbered ws)
 numbered_within [] k h = tt
 numbered_within (w ∷ ws) zero h = absurd (omega arith)
 numbered_within (w ∷ ws) (suc k) h = (omega arith, next_within k (numbered ws) (numbered_within ws k (omega arith)))

@@ -1,7 +1,7 @@
 -- The greatest and the least product over a list: they are reached, and a plane between two lists by its products.
 use Rattle.std.proofs.Common.{◌≡◌, ◌≤◌, ◌⊎◌, List, [], ◌∷◌, length, ℤ, pos, ◌+ℤ◌, ◌-ℤ◌, neg_ℤ, ◌≤ℤ◌, ◌<ℤ◌, sym, refl, ap, ◌∙◌, subst, inl, inr, arith}
 use Rattle.std.specs.Int.{int_min, int_max}
-use Rattle.std.specs.List.{AllByRecursion as All}
+use Rattle.std.specs.List.{AllByRecursion}
 use Rattle.std.proofs.lemmas.Int.{clamps}
 use Rattle.std.proofs.ByRecursion.{All-weaker}
 use Rattle.vector.specs.declared.Vector.{Vector}
@@ -16,7 +16,7 @@ use Rattle.convex.proofs.Members.{all_in, all_from_in, in_map, from_map, in_sums
 use Rattle.convex.proofs.Directions.{Weak, Strict}
 
 -- ---- the greatest product is that of a corner, and no corner has more
-pub greatest_bounds : (n c : Vector) (cs : List Vector) → All (λ d. (n · d) ≤ℤ greatest n (c ∷ cs)) (c ∷ cs)
+pub greatest_bounds : (n c : Vector) (cs : List Vector) → AllByRecursion (λ d. (n · d) ≤ℤ greatest n (c ∷ cs)) (c ∷ cs)
 greatest_bounds n c [] = (omega (arith, lin), tt)
 greatest_bounds n c (d ∷ cs) = (
   omega (arith, lin, clamps),
@@ -44,7 +44,7 @@ greatest_reached n c (d ∷ cs) = go (le_or_lt (n · c) (greatest n (d ∷ cs)))
 -- so it is that of a top
 pub highest : (n c : Vector) (cs : List Vector) → (d : Vector) × Top n (c ∷ cs) d
 highest n c cs = let r = greatest_reached n c cs in
-    (r.0, record { member = r.1; most = subst (λ k. All (λ d. (n · d) ≤ℤ k) (c ∷ cs)) (sym r.2) (greatest_bounds n c cs) })
+    (r.0, record { member = r.1; most = subst (λ k. AllByRecursion (λ d. (n · d) ≤ℤ k) (c ∷ cs)) (sym r.2) (greatest_bounds n c cs) })
 
 -- the least product of n is the opposite of the greatest of −n
 pub least_opposite : (n : Vector) (cs : List Vector) → least n cs ≡ neg_ℤ (greatest (negᵛ n) cs)
@@ -55,7 +55,7 @@ least_opposite n (c ∷ d ∷ cs) = turned (n · c) (negᵛ n · c) (least n (d 
     turned : (a a' l g : ℤ) → a' ≡ neg_ℤ a → l ≡ neg_ℤ g → int_min a l ≡ neg_ℤ (int_max a' g)
     turned a a' l g e h = omega (arith, lin, clamps)
 
-pub least_bounds : (n c : Vector) (cs : List Vector) → All (λ d. least n (c ∷ cs) ≤ℤ (n · d)) (c ∷ cs)
+pub least_bounds : (n c : Vector) (cs : List Vector) → AllByRecursion (λ d. least n (c ∷ cs) ≤ℤ (n · d)) (c ∷ cs)
 least_bounds n c cs = All-weaker (λ d. (negᵛ n · d) ≤ℤ greatest (negᵛ n) (c ∷ cs)) (λ d. least n (c ∷ cs) ≤ℤ (n · d))
     (λ d h. turned (n · d) (negᵛ n · d) (least n (c ∷ cs)) (greatest (negᵛ n) (c ∷ cs)) (neg-dot n d) (least_opposite n (c ∷ cs)) h) (c ∷ cs) (greatest_bounds (negᵛ n) c cs)
   where
@@ -82,13 +82,13 @@ dot_difference n a b = dot-plus n a (negᵛ b) ∙ ap (λ t. n · a +ℤ t) (dot
 
 -- what holds of each corner of the first and each of the second
 module _ (Q : Vector → Type 0) (A B : List Vector) where
-  pub all_differences : ((a b : Vector) → a ∈ A → b ∈ B → Q (a +ᵛ negᵛ b)) → All Q (differences A B)
+  pub all_differences : ((a b : Vector) → a ∈ A → b ∈ B → Q (a +ᵛ negᵛ b)) → AllByRecursion Q (differences A B)
   all_differences f = all_from_in Q (differences A B) (λ v h.
       let r = from_sums A (mirrored B) v h in
       let s = from_map negᵛ B r.1 r.3 in
       subst Q (sym (r.4 ∙ ap (λ (t : Vector). r.0 +ᵛ t) s.2)) (f r.0 s.0 r.2 s.1))
 
-  pub each_difference : All Q (differences A B) → (a b : Vector) → a ∈ A → b ∈ B → Q (a +ᵛ negᵛ b)
+  pub each_difference : AllByRecursion Q (differences A B) → (a b : Vector) → a ∈ A → b ∈ B → Q (a +ᵛ negᵛ b)
   each_difference h a b i j = all_in Q (differences A B) h (a +ᵛ negᵛ b) (in_sums A (mirrored B) a (negᵛ b) i (in_map negᵛ B b j))
 
 pub strict_from_between : (n : Vector) (A B : List Vector) → 1 ≤ length A → 1 ≤ length B → Between n A B → Strict n (differences A B)

@@ -1,6 +1,6 @@
 -- Weights of whole numbers on a list: sums, relations, and a common point of two lists as two lists of weights with one total and one sum.
-use Rattle.std.proofs.Common.{◌≡◌, ℕ, suc, ◌+◌, ◌*◌, ◌≤◌, List, [], ◌∷◌, ◌++◌, map, length, ℤ, pos, negsuc, ◌+ℤ◌, ◌*ℤ◌, nat_abs, ◌≤ℤ◌, ◌<ℤ◌, sym, refl, ap, ◌∙◌, arith}
-use Rattle.std.specs.List.{AllByRecursion as All}
+use Rattle.std.proofs.Common.{◌≡◌, ℕ, suc, List, [], ◌∷◌, ◌++◌, map, length, ℤ, pos, negsuc, ◌+ℤ◌, ◌*ℤ◌, nat_abs, ◌≤ℤ◌, ◌<ℤ◌, sym, refl, ap, ◌∙◌, arith}
+use Rattle.std.specs.List.{AllByRecursion}
 use Rattle.vector.specs.declared.Vector.{Vector}
 use Rattle.vector.specs.Vectors.{◌+ᵛ◌, ◌∗◌, 𝟎}
 use Rattle.vector.proofs.Ring.{var, num, ◌⊕◌, ◌⊗◌, ring}
@@ -20,7 +20,7 @@ combine (w ∷ ws) [] = 𝟎
 combine (w ∷ ws) (p ∷ P) = w ∗ p +ᵛ combine ws P
 
 abbrev pub NoneBelow : List ℤ → Type 0
-NoneBelow ws = All (λ w. pos 0 ≤ℤ w) ws
+NoneBelow ws = AllByRecursion (λ w. pos 0 ≤ℤ w) ws
 
 -- weights, one for each point, none below 0 and not all 0, with which the points add up to 0
 pub record Relation (P : List Vector) : Type 0 where

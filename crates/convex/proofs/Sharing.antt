@@ -1,6 +1,6 @@
 -- A shared rational point is two lists of weights with one total and one sum; a plane between two lists rules it out.
-use Rattle.std.proofs.Common.{◌≡◌, ℕ, ◌+◌, ◌<◌, ◌≤◌, List, [], ◌∷◌, length, ℤ, pos, ◌*ℤ◌, nat_abs, ◌≤ℤ◌, ◌<ℤ◌, sym, refl, ap, ◌∙◌, subst, arith}
-use Rattle.std.specs.List.{AllByRecursion as All}
+use Rattle.std.proofs.Common.{◌≡◌, ℕ, ◌≤◌, List, [], ◌∷◌, length, ℤ, pos, ◌*ℤ◌, nat_abs, ◌≤ℤ◌, ◌<ℤ◌, sym, refl, ap, ◌∙◌, subst, arith}
+use Rattle.std.specs.List.{AllByRecursion}
 use Rattle.vector.specs.declared.Vector.{Vector}
 use Rattle.vector.specs.Vectors.{◌·◌, ◌∗◌}
 use Rattle.vector.proofs.Ring.{var, ◌⊗◌, ring}
@@ -83,13 +83,13 @@ common_from_shared A B (p, x, y) = record {
 
 -- ---- a plane is a proof
 -- a weighted sum is no higher than the highest corner, and no lower than the lowest
-below_sum : (n : Vector) (k : ℤ) (ws : List ℤ) (P : List Vector) → length ws ≡ length P → NoneBelow ws → All (λ p. (n · p) ≤ℤ k) P → (n · combine ws P) ≤ℤ (sum ws *ℤ k)
+below_sum : (n : Vector) (k : ℤ) (ws : List ℤ) (P : List Vector) → length ws ≡ length P → NoneBelow ws → AllByRecursion (λ p. (n · p) ≤ℤ k) P → (n · combine ws P) ≤ℤ (sum ws *ℤ k)
 below_sum n k [] P e h a = omega (arith, lin, dot-𝟎 n, nought_times k)
 below_sum n k (w ∷ ws) [] e h a = absurd (omega arith)
 below_sum n k (w ∷ ws) (p ∷ P) e h a =
     omega (arith, lin, dot-weighted n w p (combine ws P), mul_mono w (n · p) k h.0 a.0, below_sum n k ws P (omega arith) h.1 a.1, +ℤ-*ℤ w (sum ws) k)
 
-above_sum : (n : Vector) (k : ℤ) (ws : List ℤ) (P : List Vector) → length ws ≡ length P → NoneBelow ws → All (λ p. k ≤ℤ (n · p)) P → (sum ws *ℤ k) ≤ℤ (n · combine ws P)
+above_sum : (n : Vector) (k : ℤ) (ws : List ℤ) (P : List Vector) → length ws ≡ length P → NoneBelow ws → AllByRecursion (λ p. k ≤ℤ (n · p)) P → (sum ws *ℤ k) ≤ℤ (n · combine ws P)
 above_sum n k [] P e h a = omega (arith, lin, dot-𝟎 n, nought_times k)
 above_sum n k (w ∷ ws) [] e h a = absurd (omega arith)
 above_sum n k (w ∷ ws) (p ∷ P) e h a =

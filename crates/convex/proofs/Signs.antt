@@ -1,7 +1,7 @@
 -- The test of the signs of two lists, read both ways: it passes exactly where not all numbers are 0, those of one list are none below 0 and those of the other none above.
 use Rattle.std.proofs.Common.{◌≡◌, Bool, true, false, not, List, [], ◌∷◌, ◌++◌, ℤ, pos, negsuc, ◌*ℤ◌, neg_ℤ, ◌≤ℤ◌, ◌<ℤ◌, sym, refl, inl, inr, arith}
 use lib.Signed.{lt_z}
-use Rattle.std.specs.List.{AllByRecursion as All}
+use Rattle.std.specs.List.{AllByRecursion}
 use Rattle.std.proofs.lemmas.Int.{ints}
 use Rattle.std.proofs.ByRecursion.{All-weaker}
 use Rattle.std.proofs.lemmas.Bool.{and_from, and_parts, or_cases, or_parts, or_from, or_left, or_right, not_from_false, false≢true}
@@ -27,7 +27,7 @@ Toward b d = pos 0 ≤ℤ (side b *ℤ d)
 
 -- all are so
 abbrev pub Leans : Bool → List ℤ → Type 0
-Leans b ds = All (Toward b) ds
+Leans b ds = AllByRecursion (Toward b) ds
 
 pub record Opposed (ds es : List ℤ) : Type 0 where
   pub lean : Bool
@@ -67,37 +67,37 @@ agree_swapped : (d e : ℤ) → agree d e ≡ false → agree e d ≡ false
 agree_swapped d e h = grind (arith, ints)
 
 -- ---- tests of all the numbers of a list
-none_of : (t : ℤ → Bool) (ds : List ℤ) → All (λ d. t d ≡ false) ds → some_of t ds ≡ false
+none_of : (t : ℤ → Bool) (ds : List ℤ) → AllByRecursion (λ d. t d ≡ false) ds → some_of t ds ≡ false
 none_of t [] a = refl
 none_of t (d ∷ ds) a = or_from (t d) (some_of t ds) a.0 (none_of t ds a.1)
 
-each_not : (t : ℤ → Bool) (ds : List ℤ) → some_of t ds ≡ false → All (λ d. t d ≡ false) ds
+each_not : (t : ℤ → Bool) (ds : List ℤ) → some_of t ds ≡ false → AllByRecursion (λ d. t d ≡ false) ds
 each_not t [] h = tt
 each_not t (d ∷ ds) h = let p = or_parts (t d) (some_of t ds) h in (p.0, each_not t ds p.1)
 
 -- where each number that passes gives Q, some that passes gives it
-by_some : {Q : Type 0} (t : ℤ → Bool) (ds : List ℤ) → some_of t ds ≡ true → All (λ d. t d ≡ true → Q) ds → Q
+by_some : {Q : Type 0} (t : ℤ → Bool) (ds : List ℤ) → some_of t ds ≡ true → AllByRecursion (λ d. t d ≡ true → Q) ds → Q
 by_some t [] h a = absurd (false≢true h)
 by_some t (d ∷ ds) h a = elim (or_cases (t d) (some_of t ds) h) [ inl k ↦ a.0 k | inr k ↦ by_some t ds k a.1 ]
 
 -- a test of two numbers that no two pass
-none_two : (t : ℤ → ℤ → Bool) (Q R : ℤ → Type 0) → ((d e : ℤ) → Q d → R e → t d e ≡ false) → (ds es : List ℤ) → All Q ds → All R es → not (some_two t ds es) ≡ true
+none_two : (t : ℤ → ℤ → Bool) (Q R : ℤ → Type 0) → ((d e : ℤ) → Q d → R e → t d e ≡ false) → (ds es : List ℤ) → AllByRecursion Q ds → AllByRecursion R es → not (some_two t ds es) ≡ true
 none_two t Q R f ds es a b = not_from_false (some_two t ds es)
     (none_of (λ d. some_of (t d) es) ds (All-weaker Q (λ d. some_of (t d) es ≡ false) (λ d q. none_of (t d) es (All-weaker R (λ e. t d e ≡ false) (λ e. f d e q) es b)) ds a))
 
-no_two : (t : ℤ → ℤ → Bool) (ds es : List ℤ) → not (some_two t ds es) ≡ true → All (λ d. All (λ e. t d e ≡ false) es) ds
-no_two t ds es h = All-weaker (λ d. some_of (t d) es ≡ false) (λ d. All (λ e. t d e ≡ false) es) (λ d. each_not (t d) es) ds
+no_two : (t : ℤ → ℤ → Bool) (ds es : List ℤ) → not (some_two t ds es) ≡ true → AllByRecursion (λ d. AllByRecursion (λ e. t d e ≡ false) es) ds
+no_two t ds es h = All-weaker (λ d. some_of (t d) es ≡ false) (λ d. AllByRecursion (λ e. t d e ≡ false) es) (λ d. each_not (t d) es) ds
     (each_not (λ d. some_of (t d) es) ds (failed (some_two t ds es) h))
   where
     failed : (b : Bool) → not b ≡ true → b ≡ false
     failed true h = sym h
     failed false h = refl
 
-turned_round : (t : ℤ → ℤ → Type 0) (ds es : List ℤ) → All (λ d. All (t d) es) ds → All (λ e. All (λ d. t d e) ds) es
+turned_round : (t : ℤ → ℤ → Type 0) (ds es : List ℤ) → AllByRecursion (λ d. AllByRecursion (t d) es) ds → AllByRecursion (λ e. AllByRecursion (λ d. t d e) ds) es
 turned_round t ds [] a = tt
 turned_round t ds (e ∷ es) a = (
-  All-weaker (λ d. All (t d) (e ∷ es)) (λ d. t d e) (λ d h. h.0) ds a,
-  turned_round t ds es (All-weaker (λ d. All (t d) (e ∷ es)) (λ d. All (t d) es) (λ d h. h.1) ds a),
+  All-weaker (λ d. AllByRecursion (t d) (e ∷ es)) (λ d. t d e) (λ d h. h.0) ds a,
+  turned_round t ds es (All-weaker (λ d. AllByRecursion (t d) (e ∷ es)) (λ d. AllByRecursion (t d) es) (λ d h. h.1) ds a),
 )
 
 -- ---- the whole test
@@ -110,12 +110,12 @@ opposed_passes ds es o =
     (none_two disagree (Toward (not b)) (Toward (not b)) (same_side (not b)) es es o.second o.second))
     (none_two agree (Toward b) (Toward (not b)) (two_sides b) ds es o.first o.second)
 
-all_two : (Q R S : ℤ → Type 0) → ((d : ℤ) → Q d → R d → S d) → (ds : List ℤ) → All Q ds → All R ds → All S ds
+all_two : (Q R S : ℤ → Type 0) → ((d : ℤ) → Q d → R d → S d) → (ds : List ℤ) → AllByRecursion Q ds → AllByRecursion R ds → AllByRecursion S ds
 all_two Q R S f [] a b = tt
 all_two Q R S f (d ∷ ds) a b = (f d a.0 b.0, all_two Q R S f ds a.1 b.1)
 
 -- a number with a sign tells how its own list and the other lean
-led : (ds es : List ℤ) (s : ℤ) → All (λ d. disagree s d ≡ false) ds → All (λ e. agree s e ≡ false) es → has_sign s ≡ true → (b : Bool) × Leans b ds × Leans (not b) es
+led : (ds es : List ℤ) (s : ℤ) → AllByRecursion (λ d. disagree s d ≡ false) ds → AllByRecursion (λ e. agree s e ≡ false) es → has_sign s ≡ true → (b : Bool) × Leans b ds × Leans (not b) es
 led ds es s f g h =
     let k = side_of s h in
     let b = k.0 in (
@@ -131,9 +131,9 @@ opposed_is ds es h =
     let r = and_parts (some_of has_sign (ds ++ es)) (not (some_two disagree ds ds)) q.0 in
     let g = no_two agree ds es p.1 in
     by_some has_sign (ds ++ es) r.0 (all_both (λ s. has_sign s ≡ true → Opposed ds es) ds es
-    (all_two (λ s. All (λ d. disagree s d ≡ false) ds) (λ s. All (λ e. agree s e ≡ false) es) (λ s. has_sign s ≡ true → Opposed ds es)
+    (all_two (λ s. AllByRecursion (λ d. disagree s d ≡ false) ds) (λ s. AllByRecursion (λ e. agree s e ≡ false) es) (λ s. has_sign s ≡ true → Opposed ds es)
     (λ s f g k. let l = led ds es s f g k in record { lean = l.0; first = l.1; second = l.2; some = r.0 }) ds (no_two disagree ds ds r.1) g)
-    (all_two (λ s. All (λ e. disagree s e ≡ false) es) (λ s. All (λ d. agree d s ≡ false) ds) (λ s. has_sign s ≡ true → Opposed ds es)
+    (all_two (λ s. AllByRecursion (λ e. disagree s e ≡ false) es) (λ s. AllByRecursion (λ d. agree d s ≡ false) ds) (λ s. has_sign s ≡ true → Opposed ds es)
     (λ s f g k. let l = led es ds s f (All-weaker (λ d. agree d s ≡ false) (λ d. agree s d ≡ false) (λ d. agree_swapped d s) ds g) k in other l.0 l.1 l.2 r.0)
     es (no_two disagree es es q.1) (turned_round (λ d e. agree d e ≡ false) ds es g)))
   where

@@ -2,7 +2,7 @@
 use Rattle.std.proofs.Common.{◌≡◌, Bool, true, false, ◌&&◌, ◌||◌, List, [], ◌∷◌, ℤ, pos, ◌≤ℤ◌, ◌<ℤ◌, refl, ap, ◌∙◌, inl, inr, arith}
 use lib.Signed.{lt_z, le_z}
 use borrow.Author.Tests.{clash}
-use Rattle.std.specs.List.{AllByRecursion as All}
+use Rattle.std.specs.List.{AllByRecursion}
 use Rattle.std.proofs.lemmas.Int.{ints}
 use Rattle.std.proofs.lemmas.Bool.{and_parts, or_cases}
 use Rattle.vector.specs.declared.Vector.{Vector}
@@ -45,7 +45,7 @@ pub below_from : (a b : ℤ) → lt_z a b ≡ true → a <ℤ b
 below_from a b h = grind (arith, ints)
 
 -- every product is below 0
-pub all_below : (n : Vector) (L : List Vector) → every (λ v. lt_z (n · v) (pos 0)) L ≡ true → All (λ v. (n · v) <ℤ pos 0) L
+pub all_below : (n : Vector) (L : List Vector) → every (λ v. lt_z (n · v) (pos 0)) L ≡ true → AllByRecursion (λ v. (n · v) <ℤ pos 0) L
 all_below n L h = all_from_in (λ v. (n · v) <ℤ pos 0) L (λ v k. below_from (n · v) (pos 0) (every_in (λ v. lt_z (n · v) (pos 0)) L h v k))
 
 -- no product is above that of c
@@ -56,7 +56,7 @@ is_top n c cs h e = record { member = h; most = all_from_in (λ d. (n · d) ≤�
     at_most_from a b h = grind (arith, ints)
 
 -- no direction of a list is accepted
-pub none_between : (fs A B : List Vector) → every (λ f. le_z (least f B) (greatest f A)) fs ≡ true → All (λ f. ¬ (Between f A B)) fs
+pub none_between : (fs A B : List Vector) → every (λ f. le_z (least f B) (greatest f A)) fs ≡ true → AllByRecursion (λ f. ¬ (Between f A B)) fs
 none_between fs A B h = all_from_in (λ f. ¬ (Between f A B)) fs (λ f k b. clashing (greatest f A) (least f B) (every_in (λ f. le_z (least f B) (greatest f A)) fs h f k) b)
   where
     clashing : (g l : ℤ) → le_z l g ≡ true → g <ℤ l → ⊥

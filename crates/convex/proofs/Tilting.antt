@@ -1,7 +1,7 @@
 -- A direction with no positive product tilts, at most twice, to a face with none; where every product was negative, every product stays so.
 use Rattle.std.proofs.Common.{◌≡◌, ◌⊎◌, List, [], ◌∷◌, ℤ, pos, ◌-ℤ◌, ◌*ℤ◌, neg_ℤ, ◌≤ℤ◌, ◌<ℤ◌, sym, ap, ◌∙◌, inl, inr, arith}
 use lib.IntN.{ℤ_discrete}
-use Rattle.std.specs.List.{AllByRecursion as All}
+use Rattle.std.specs.List.{AllByRecursion}
 use Rattle.std.proofs.ByRecursion.{All-weaker}
 use Rattle.vector.specs.declared.Vector.{Vector}
 use Rattle.vector.specs.Vectors.{◌·◌, ◌⨯◌, ◌-ᵛ◌, negᵛ, 𝟎}
@@ -116,7 +116,7 @@ touches n Q d v = both (ℤ_discrete (n · v) (pos 0)) (d v)
 
 -- where n is 0 only at vectors with Q, and e is 0 at those
 all_ready : (n e : Vector) (Q : Vector → Type 0) → ((v : Vector) → Dec (Q v)) → ((v : Vector) → Q v → e · v ≡ pos 0)
-    → (K : List Vector) → Weak n K → All (λ v. ¬ ((n · v ≡ pos 0) × (¬ (Q v)))) K → All (Ready n e) K
+    → (K : List Vector) → Weak n K → AllByRecursion (λ v. ¬ ((n · v ≡ pos 0) × (¬ (Q v)))) K → AllByRecursion (Ready n e) K
 all_ready n e Q d f [] w a = tt
 all_ready n e Q d f (v ∷ K) w a = (record { low = w.0; tight = λ p. elim (d v) [ yes q ↦ f v q | no q ↦ absurd (a.0 (p, q)) ] }, all_ready n e Q d f K w.1 a.1)
 
@@ -134,7 +134,7 @@ one_tilt n z L n≠ low round zl u u_in u≠ u_tight = go (find (λ v. (n · v �
     e : Vector
     e = n ⨯ u
 
-    go : ((v : Vector) × v ∈ L × ((n · v ≡ pos 0) × (¬ (u ⨯ v ≡ 𝟎)))) ⊎ All (λ v. ¬ ((n · v ≡ pos 0) × (¬ (u ⨯ v ≡ 𝟎)))) L → Resting n z L
+    go : ((v : Vector) × v ∈ L × ((n · v ≡ pos 0) × (¬ (u ⨯ v ≡ 𝟎)))) ⊎ AllByRecursion (λ v. ¬ ((n · v ≡ pos 0) × (¬ (u ⨯ v ≡ 𝟎)))) L → Resting n z L
     go (inl r) = record {
       m = n;
       nonzero = n≠;
@@ -173,7 +173,7 @@ rest n z L n≠ low round zl = go (find (λ v. (n · v ≡ pos 0) × (¬ (v ≡ 
     e : (e : Vector) × (¬ (e ≡ 𝟎)) × (e · n ≡ pos 0)
     e = at_right_angles n n≠
 
-    go : ((v : Vector) × v ∈ L × ((n · v ≡ pos 0) × (¬ (v ≡ 𝟎)))) ⊎ All (λ v. ¬ ((n · v ≡ pos 0) × (¬ (v ≡ 𝟎)))) L → Resting n z L
+    go : ((v : Vector) × v ∈ L × ((n · v ≡ pos 0) × (¬ (v ≡ 𝟎)))) ⊎ AllByRecursion (λ v. ¬ ((n · v ≡ pos 0) × (¬ (v ≡ 𝟎)))) L → Resting n z L
     go (inl r) = one_tilt n z L n≠ low round zl r.0 r.1 r.2.1 r.2.0
     go (inr a) =
         let ready = all_ready n e.0 (λ v. v ≡ 𝟎) (λ v. vector_discrete v 𝟎) (λ v q. dot_nothing e.0 v q) L low a in

@@ -1,7 +1,7 @@
 -- The tops of a list, its corners with the greatest product with n: a search among them, their three shapes, and the tops of mirrored lists and of sums.
-use Rattle.std.proofs.Common.{◌≡◌, ◌⊎◌, List, [], ◌∷◌, ℤ, pos, ◌+ℤ◌, ◌≤ℤ◌, sym, refl, ap, ◌∙◌, subst, inl, inr, arith}
+use Rattle.std.proofs.Common.{◌≡◌, ◌⊎◌, List, [], ◌∷◌, pos, ◌+ℤ◌, ◌≤ℤ◌, sym, refl, ap, ◌∙◌, subst, inl, inr, arith}
 use lib.IntN.{ℤ_discrete}
-use Rattle.std.specs.List.{AllByRecursion as All}
+use Rattle.std.specs.List.{AllByRecursion}
 use Rattle.vector.specs.declared.Vector.{Vector}
 use Rattle.vector.specs.Vectors.{◌·◌, ◌⨯◌, ◌+ᵛ◌, ◌-ᵛ◌, negᵛ, 𝟎}
 use Rattle.vector.proofs.Order.{lin}
@@ -26,7 +26,7 @@ level n cs p q s t = omega (arith, lin, dot-minus n q p, same_product n cs p q s
 
 -- a corner with the product of a top is a top
 pub top_from : (n : Vector) (cs : List Vector) (p q : Vector) → Top n cs p → q ∈ cs → n · q ≡ n · p → Top n cs q
-top_from n cs p q t h e = record { member = h; most = subst (λ k. All (λ d. (n · d) ≤ℤ k) cs) (sym e) t.most }
+top_from n cs p q t h e = record { member = h; most = subst (λ k. AllByRecursion (λ d. (n · d) ≤ℤ k) cs) (sym e) t.most }
 
 -- ---- a search: a top with Q, or none
 pub find_top : (n : Vector) (cs : List Vector) (p : Vector) → Top n cs p → (Q : Vector → Type 0) → ((v : Vector) → Dec (Q v))

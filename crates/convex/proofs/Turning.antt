@@ -1,6 +1,6 @@
 -- A direction n is turned towards e, or away from it, until its plane rests on one more vector of a list.
 use Rattle.std.proofs.Common.{◌≡◌, ◌⊎◌, List, [], ◌∷◌, ℤ, pos, ◌-ℤ◌, ◌*ℤ◌, neg_ℤ, ◌≤ℤ◌, ◌<ℤ◌, sym, refl, ap, ◌∙◌, subst, inl, inr, arith}
-use Rattle.std.specs.List.{AllByRecursion as All}
+use Rattle.std.specs.List.{AllByRecursion}
 use Rattle.vector.specs.declared.Vector.{Vector}
 use Rattle.vector.specs.Vectors.{◌·◌, ◌-ᵛ◌, ◌∗◌, negᵛ, 𝟎}
 use Rattle.vector.proofs.Ring.{var, num, ◌⊗◌, ◌⊝◌, neg, ring}
@@ -65,15 +65,15 @@ steeper N M M₁ E F F₁ h_n h_m h_m₁ hc hg =
     cancel_le (neg_ℤ M₁) (F *ℤ N -ℤ M *ℤ E) (pos 0) (omega (arith, lin))
     (omega (arith, lin, r, mul_nonpos (neg_ℤ M) g (omega (arith, lin)) hg, mul_nonneg (neg_ℤ N) c (omega (arith, lin)) (omega (arith, lin)), times_nought (neg_ℤ M₁)))
 
-steepest : (n e : Vector) (L : List Vector) → All (Ready n e) L → All (λ u. n · u ≡ pos 0) L ⊎ Steepest n e L
+steepest : (n e : Vector) (L : List Vector) → AllByRecursion (Ready n e) L → AllByRecursion (λ u. n · u ≡ pos 0) L ⊎ Steepest n e L
 steepest n e [] r = inl tt
 steepest n e (u ∷ L) r = go (sign (n · u)) (steepest n e L r.1)
   where
-    flat : (w : Vector) (K : List Vector) → All (Ready n e) K → All (λ u. n · u ≡ pos 0) K → Weak (turn n e w) K
+    flat : (w : Vector) (K : List Vector) → AllByRecursion (Ready n e) K → AllByRecursion (λ u. n · u ≡ pos 0) K → Weak (turn n e w) K
     flat w [] q z = tt
     flat w (t ∷ K) q z = (omega (arith, lin, turn_kept n e w t z.0 (q.0.tight z.0)), flat w K q.1 z.1)
 
-    better : (w : Vector) → (n · w) <ℤ pos 0 → (n · u) <ℤ pos 0 → pos 0 <ℤ (turn n e w · u) → (K : List Vector) → All (Ready n e) K → Weak (turn n e w) K → Weak (turn n e u) K
+    better : (w : Vector) → (n · w) <ℤ pos 0 → (n · u) <ℤ pos 0 → pos 0 <ℤ (turn n e w · u) → (K : List Vector) → AllByRecursion (Ready n e) K → Weak (turn n e w) K → Weak (turn n e u) K
     better w hw hu c [] q a = tt
     better w hw hu c (t ∷ K) q a = (
       subst (λ k. k ≤ℤ pos 0) (sym (turn_at n e u t))
@@ -92,7 +92,7 @@ steepest n e (u ∷ L) r = go (sign (n · u)) (steepest n e L r.1)
     choose h s (nought k) = still s (omega (arith, lin))
     choose h s (plus k) = new h (better s.v s.v_low h k L r.1 s.all)
 
-    go : Sign (n · u) → All (λ u. n · u ≡ pos 0) L ⊎ Steepest n e L → All (λ u. n · u ≡ pos 0) (u ∷ L) ⊎ Steepest n e (u ∷ L)
+    go : Sign (n · u) → AllByRecursion (λ u. n · u ≡ pos 0) L ⊎ Steepest n e L → AllByRecursion (λ u. n · u ≡ pos 0) (u ∷ L) ⊎ Steepest n e (u ∷ L)
     go (minus h) (inl z) = inr (new h (flat u L r.1 z))
     go (minus h) (inr s) = inr (choose h s (sign (turn n e s.v · u)))
     go (nought h) (inl z) = inl (h, z)
@@ -114,7 +114,7 @@ pub record Turns (n e : Vector) (L : List Vector) : Type 0 where
   pub down_nonzero : ¬ (turn n (negᵛ e) down.v ≡ 𝟎)
   pub apart : (turn n e up.v · down.v) <ℤ pos 0
 
-pub turns : (n e : Vector) (L : List Vector) → ¬ (n ≡ 𝟎) → ¬ (e ≡ 𝟎) → e · n ≡ pos 0 → All (Ready n e) L → Round L → Turns n e L
+pub turns : (n e : Vector) (L : List Vector) → ¬ (n ≡ 𝟎) → ¬ (e ≡ 𝟎) → e · n ≡ pos 0 → AllByRecursion (Ready n e) L → Round L → Turns n e L
 turns n e L n≠ e≠ square ready round = record {
   up = up;
   down = down;
@@ -123,7 +123,7 @@ turns n e L n≠ e≠ square ready round = record {
   apart = go (sign (turn n e a · b));
 }
   where
-    ready_back : (K : List Vector) → All (Ready n e) K → All (Ready n (negᵛ e)) K
+    ready_back : (K : List Vector) → AllByRecursion (Ready n e) K → AllByRecursion (Ready n (negᵛ e)) K
     ready_back [] r = tt
     ready_back (u ∷ K) r = (record { low = r.0.low; tight = λ h. omega (arith, lin, neg-dot e u, r.0.tight h) }, ready_back K r.1)
 
@@ -151,7 +151,7 @@ turns n e L n≠ e≠ square ready round = record {
         by (nought h) = h
         by (plus h) = absurd (omega (arith, lin))
 
-    level : turn n e a · b ≡ pos 0 → (K : List Vector) → Weak (turn n e a) K → Weak (turn n (negᵛ e) b) K → All (λ v. turn n e a · v ≡ pos 0) K
+    level : turn n e a · b ≡ pos 0 → (K : List Vector) → Weak (turn n e a) K → Weak (turn n (negᵛ e) b) K → AllByRecursion (λ v. turn n e a · v ≡ pos 0) K
     level c [] p q = tt
     level c (u ∷ K) p q = (
       even (n · a) (n · b) (n · u) (turn n e a · u) (turn n e a · b) (turn n (negᵛ e) b · u) (opposite_turns n e a b u) up.v_low down.v_low p.0 q.0 c,

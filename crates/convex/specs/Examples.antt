@@ -1,6 +1,6 @@
 -- Cases of the theorems, most of them at two small lists, the corners of the tetrahedron T and of a cube, with the numbers computed.
-use Rattle.std.specs.Prelude.{◌≡◌, ℕ, true, false, List, [], ◌∷◌, ◌++◌, ℤ, pos, negsuc, neg_ℤ, ◌≤ℤ◌, ◌<ℤ◌}
-use Rattle.std.specs.List.{AllByRecursion as All}
+use Rattle.std.specs.Prelude.{◌≡◌, ℕ, true, false, List, [], ◌∷◌, ◌++◌, pos, negsuc, neg_ℤ, ◌≤ℤ◌, ◌<ℤ◌}
+use Rattle.std.specs.List.{AllByRecursion}
 use Rattle.vector.specs.declared.Vector.{Vector}
 use Rattle.vector.specs.Vectors.{vector, ◌·◌, ◌⨯◌, negᵛ}
 use Rattle.convex.specs.Points.{◌∈◌, Shared, Entry, entries_sum, Mixture}
@@ -64,9 +64,9 @@ pub record Apart : Type 0 where
   pub least_is : least (whole 16 16 16) t_at_10 ≡ pos 160
   pub none_shared : ¬ (Shared T t_at_10)
   -- a face: the direction +x has only negative products over the differences, and so has the face (16, 16, 16)
-  pub strict : All (λ d. (whole 1 0 0 · d) <ℤ pos 0) (differences T t_at_10)
+  pub strict : AllByRecursion (λ d. (whole 1 0 0 · d) <ℤ pos 0) (differences T t_at_10)
   pub face : Face (whole 16 16 16) (differences T t_at_10)
-  pub face_strict : All (λ d. (whole 16 16 16 · d) <ℤ pos 0) (differences T t_at_10)
+  pub face_strict : AllByRecursion (λ d. (whole 16 16 16 · d) <ℤ pos 0) (differences T t_at_10)
   -- the listed planes: it is one of them
   pub listed : whole 16 16 16 ∈ planes t_flats t_ridges t_flats t_ridges
   pub accepted : Between (whole 16 16 16) T t_at_10
@@ -93,7 +93,7 @@ pub record Touch : Type 0 where
   pub sided : Sided (differences T cube_at_4) (planes t_flats t_ridges cube_flats cube_ridges) (t_ridges ++ cube_ridges)
   pub weak : greatest (whole 1 0 0) T ≤ℤ least (whole 1 0 0) cube_at_4
   pub face : Face (whole 16 16 16) (differences T cube_at_4)
-  pub face_weak : All (λ d. (whole 16 16 16 · d) ≤ℤ pos 0) (differences T cube_at_4)
+  pub face_weak : AllByRecursion (λ d. (whole 16 16 16 · d) ≤ℤ pos 0) (differences T cube_at_4)
   -- one of the listed planes, it has equal products
   pub listed : whole 16 16 16 ∈ planes t_flats t_ridges cube_flats cube_ridges
   pub greatest_is : greatest (whole 16 16 16) T ≡ pos 64
@@ -107,8 +107,8 @@ pub record Inside : Type 0 where
 -- T and the cube at (−1, 2, 3) are apart near ridges: no flat of either is accepted, and the product of a ridge of T and one of the cube is
 pub record Beside : Type 0 where
   pub pair : Pair T t_flats t_ridges cube_beside cube_flats cube_ridges
-  pub no_flat_of_t : All (λ f. ¬ (Between f T cube_beside)) t_flats
-  pub no_flat_of_cube : All (λ f. ¬ (Between f T cube_beside)) (mirrored cube_flats)
+  pub no_flat_of_t : AllByRecursion (λ f. ¬ (Between f T cube_beside)) t_flats
+  pub no_flat_of_cube : AllByRecursion (λ f. ¬ (Between f T cube_beside)) (mirrored cube_flats)
   pub product_is : negᵛ (vector (pos 0) (pos 4) (negsuc 3) ⨯ whole 4 0 0) ≡ whole 0 16 16
   pub listed : whole 0 16 16 ∈ planes t_flats t_ridges cube_flats cube_ridges
   pub greatest_is : greatest (whole 0 16 16) T ≡ pos 64

@@ -1,6 +1,6 @@
 -- Lists of corners that lie in no one plane, their faces and their edges.
 use Rattle.std.specs.Prelude.{◌≡◌, List, ℤ}
-use Rattle.std.specs.List.{AllByRecursion as All}
+use Rattle.std.specs.List.{AllByRecursion}
 use Rattle.vector.specs.declared.Vector.{Vector}
 use Rattle.vector.specs.Vectors.{◌·◌, ◌⨯◌, ◌-ᵛ◌, 𝟎}
 use Rattle.convex.specs.Products.{Top}
@@ -10,11 +10,11 @@ pub record Held (cs : List Vector) : Type 0 where
   pub direction : Vector
   pub nonzero : ¬ (direction ≡ 𝟎)
   pub height : ℤ
-  pub all : All (λ c. direction · c ≡ height) cs
+  pub all : AllByRecursion (λ c. direction · c ≡ height) cs
 
 -- no plane does
 abbrev pub Spanning : List Vector → Type 0
-Spanning cs = (w : Vector) → ¬ (w ≡ 𝟎) → (k : ℤ) → ¬ (All (λ c. w · c ≡ k) cs)
+Spanning cs = (w : Vector) → ¬ (w ≡ 𝟎) → (k : ℤ) → ¬ (AllByRecursion (λ c. w · c ≡ k) cs)
 
 -- three points are on one line
 abbrev pub InLine : Vector → Vector → Vector → Type 0

@@ -1,6 +1,6 @@
 -- Five corners of two lists, h of the first and 5 − h of the second: their signed determinants, and when they yield a mixture.
 use Rattle.std.specs.Prelude.{◌≡◌, ℕ, suc, ◌+◌, ◌<◌, ◌≤◌, Bool, true, false, not, ◌&&◌, ◌||◌, List, [], ◌∷◌, ◌++◌, map, length, get_or, take, drop, ℤ, pos, ◌+ℤ◌, ◌-ℤ◌, neg_ℤ, int_lt, slice_index_or, unsigned_abs}
-use Rattle.std.specs.List.{AllByRecursion as All}
+use Rattle.std.specs.List.{AllByRecursion}
 use Rattle.vector.specs.declared.Vector.{Vector}
 use Rattle.vector.specs.Vectors.{◌·◌, ◌⨯◌, 𝟎}
 use Rattle.convex.specs.Points.{Entry}
@@ -52,7 +52,7 @@ RisingFrom lo (i ∷ is) = (lo ≤ i) × RisingFrom (suc i) is
 -- rising corner numbers of a list with k corners
 pub record Choice (k : ℕ) (is : List ℕ) : Type 0 where
   pub rising : RisingFrom 0 is
-  pub within : All (λ i. i < k) is
+  pub within : AllByRecursion (λ i. i < k) is
 
 -- the corners of those numbers
 abbrev pub chosen : List Vector → List ℕ → List Vector

@@ -1,6 +1,6 @@
 -- Rational points, and which of them belong to a list of corners (the convex hull of its vertices).
 use Rattle.std.specs.Prelude.{◌≡◌, ℕ, ◌+◌, ◌<◌, ◌≤◌, ◌⊎◌, List, [], ◌∷◌, length, pos, slice_index_or}
-use Rattle.std.specs.List.{AllByRecursion as All}
+use Rattle.std.specs.List.{AllByRecursion}
 use Rattle.vector.specs.declared.Vector.{Vector}
 use Rattle.vector.specs.Vectors.{◌+ᵛ◌, ◌∗◌, 𝟎}
 
@@ -54,8 +54,8 @@ entries_sum cs (e ∷ es) = pos e.weight ∗ slice_index_or cs e.corner 𝟎 +�
 
 -- a mixture that is accepted: each entry names an existing corner, both totals are equal and at least 1, and both sums are equal
 pub record Mixture (A B : List Vector) (es fs : List Entry) : Type 0 where
-  pub in_first : All (λ e. e.corner < length A) es
-  pub in_second : All (λ e. e.corner < length B) fs
+  pub in_first : AllByRecursion (λ e. e.corner < length A) es
+  pub in_second : AllByRecursion (λ e. e.corner < length B) fs
   pub same_total : entries_total es ≡ entries_total fs
   pub some : 1 ≤ entries_total es
   pub same_sum : entries_sum A es ≡ entries_sum B fs

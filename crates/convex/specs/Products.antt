@@ -1,7 +1,7 @@
 -- The products of a direction with the corners of a list: the greatest, the least, and planes between two lists.
 use Rattle.std.specs.Prelude.{List, [], ◌∷◌, ℤ, pos, ◌≤ℤ◌, ◌<ℤ◌}
 use Rattle.std.specs.Int.{int_min, int_max}
-use Rattle.std.specs.List.{AllByRecursion as All}
+use Rattle.std.specs.List.{AllByRecursion}
 use Rattle.vector.specs.declared.Vector.{Vector}
 use Rattle.vector.specs.Vectors.{◌·◌}
 use Rattle.convex.specs.Points.{◌∈◌}
@@ -25,4 +25,4 @@ Between n A B = greatest n A <ℤ least n B
 -- c is a corner with the greatest product (a support point)
 pub record Top (n : Vector) (cs : List Vector) (c : Vector) : Type 0 where
   pub member : c ∈ cs
-  pub most : All (λ d. (n · d) ≤ℤ (n · c)) cs
+  pub most : AllByRecursion (λ d. (n · d) ≤ℤ (n · c)) cs

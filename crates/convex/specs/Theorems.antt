@@ -1,6 +1,6 @@
 -- What is proved of every list of corners. Each statement is the contract of a function of this crate.
 use Rattle.std.specs.Prelude.{◌≡◌, ◌≤◌, true, ◌⊎◌, List, [], ◌∷◌, ◌++◌, length, pos, ◌≤ℤ◌, ◌<ℤ◌}
-use Rattle.std.specs.List.{AllByRecursion as All}
+use Rattle.std.specs.List.{AllByRecursion}
 use Rattle.vector.specs.declared.Vector.{Vector}
 use Rattle.vector.specs.Vectors.{◌·◌, ◌⨯◌, ◌-ᵛ◌, 𝟎, inside, within}
 use Rattle.convex.specs.Points.{◌∈◌, Shared, Entry, Mixture}
@@ -12,8 +12,8 @@ use Rattle.convex.specs.Fives.{dets, Five, first_entries, second_entries}
 -- `greatest` is the product of some corner and no corner has more; `least` likewise
 abbrev pub ProductsAreReached : Type 0
 ProductsAreReached = (n : Vector) (cs : List Vector) → 1 ≤ length cs
-    → ((c : Vector) × c ∈ cs × (n · c ≡ greatest n cs)) × All (λ c. (n · c) ≤ℤ greatest n cs) cs
-    × ((c : Vector) × c ∈ cs × (n · c ≡ least n cs)) × All (λ c. least n cs ≤ℤ (n · c)) cs
+    → ((c : Vector) × c ∈ cs × (n · c ≡ greatest n cs)) × AllByRecursion (λ c. (n · c) ≤ℤ greatest n cs) cs
+    × ((c : Vector) × c ∈ cs × (n · c ≡ least n cs)) × AllByRecursion (λ c. least n cs ≤ℤ (n · c)) cs
 
 -- A plane is a proof: two lists with a plane between them share no point.
 abbrev pub PlaneIsProof : Type 0
@@ -37,8 +37,8 @@ SpanningOrHeld = (cs : List Vector) → Spanning cs ⊎ Held cs
 
 -- A face: a direction that has no positive product tilts to a face that has none; where every product was negative, every product stays so.
 abbrev pub DirectionTiltsToFace : Type 0
-DirectionTiltsToFace = (ds : List Vector) (n : Vector) → Spanning ds → ¬ (n ≡ 𝟎) → All (λ d. (n · d) ≤ℤ pos 0) ds
-    → (m : Vector) × Face m ds × All (λ d. (m · d) ≤ℤ pos 0) ds × (All (λ d. (n · d) <ℤ pos 0) ds → All (λ d. (m · d) <ℤ pos 0) ds)
+DirectionTiltsToFace = (ds : List Vector) (n : Vector) → Spanning ds → ¬ (n ≡ 𝟎) → AllByRecursion (λ d. (n · d) ≤ℤ pos 0) ds
+    → (m : Vector) × Face m ds × AllByRecursion (λ d. (m · d) ≤ℤ pos 0) ds × (AllByRecursion (λ d. (n · d) <ℤ pos 0) ds → AllByRecursion (λ d. (m · d) <ℤ pos 0) ds)
 
 -- The laws of a shifted list.
 abbrev pub ShiftKeepsLaws : Type 0
@@ -54,7 +54,7 @@ SumKeepsLaws = (A fs rs B gs ts : List Vector) → Sided A fs rs → Sided B gs 
 
 -- Further entries are harmless: more flats and more ridges keep the laws.
 abbrev pub MoreKeepsLaws : Type 0
-MoreKeepsLaws = (cs fs rs gs ts : List Vector) → Sided cs fs rs → All (λ f. f ∈ gs) fs → All (λ u. u ∈ ts) rs → Sided cs gs ts
+MoreKeepsLaws = (cs fs rs gs ts : List Vector) → Sided cs fs rs → AllByRecursion (λ f. f ∈ gs) fs → AllByRecursion (λ u. u ∈ ts) rs → Sided cs gs ts
 
 -- Corners on one line, along u, have no flat, and the one ridge u.
 abbrev pub LineKeepsLaws : Type 0
@@ -93,15 +93,15 @@ PlaneOrFive = (A fs rs B gs ts : List Vector) → Pair A fs rs B gs ts → ((m :
 
 -- The weights fit: from corners within reach each determinant is within 50,000,000,000,000,
 abbrev pub WeightsFit : Type 0
-WeightsFit = (ps : List Vector) → All (λ p. within 10000 p ≡ true) ps → All (λ d. inside 50000000000000 d ≡ true) (dets ps)
+WeightsFit = (ps : List Vector) → AllByRecursion (λ p. within 10000 p ≡ true) ps → AllByRecursion (λ d. inside 50000000000000 d ≡ true) (dets ps)
 
 -- and the planes: a ridge between corners and a flat through three, and every plane that flats and ridges give.
 abbrev pub PlanesFit : Type 0
 PlanesFit = ((p q : Vector) → within 10000 p ≡ true → within 10000 q ≡ true → within 20000 (q -ᵛ p) ≡ true)
     × ((p q s : Vector) → within 10000 p ≡ true → within 10000 q ≡ true → within 10000 s ≡ true → within 800000000 ((q -ᵛ p) ⨯ (s -ᵛ p)) ≡ true)
-    × ((fs rs gs ts : List Vector) → All (λ f. within 800000000 f ≡ true) fs → All (λ u. within 20000 u ≡ true) rs
-    → All (λ g. within 800000000 g ≡ true) gs → All (λ v. within 20000 v ≡ true) ts
-    → All (λ n. within 800000000 n ≡ true) (planes fs rs gs ts))
+    × ((fs rs gs ts : List Vector) → AllByRecursion (λ f. within 800000000 f ≡ true) fs → AllByRecursion (λ u. within 20000 u ≡ true) rs
+    → AllByRecursion (λ g. within 800000000 g ≡ true) gs → AllByRecursion (λ v. within 20000 v ≡ true) ts
+    → AllByRecursion (λ n. within 800000000 n ≡ true) (planes fs rs gs ts))
 
 -- the two faces of an edge
 pub record TwoFaces (cs : List Vector) (n : Vector) (e : Edge n cs) : Type 0 where

@@ -1,7 +1,7 @@
 -- The layers over a body are bodies: their corners fit, and their flats and ridges are few and within range.
 use Rattle.std.specs.Prelude.{◌≡◌, ℕ, ◌≤◌, true, cond, List, [], ◌∷◌, length, refl}
 use Rattle.std.proofs.Common.{sym, subst}
-use Rattle.std.specs.List.{AllByRecursion as All}
+use Rattle.std.specs.List.{AllByRecursion}
 use Rattle.std.proofs.lemmas.List.{length-map}
 use Rattle.std.proofs.lemmas.Bool.{and_parts, and_from, cond_both}
 use Rattle.vector.specs.declared.Vector.{Vector}
@@ -31,7 +31,7 @@ mirror_sound (corners cs) s =
     let e = sym (length-map cs negᵛ) in
     fits_from (mirrored cs) (subst (λ (n : ℕ). 1 ≤ n) e p.0) (subst (λ (n : ℕ). n ≤ 1024) e p.1) (reached_mirrored cs p.2)
 
-all_mirrored : (fs : List Vector) → All (λ f. within 800000000 f ≡ true) fs → All (λ f. within 800000000 f ≡ true) (mirrored fs)
+all_mirrored : (fs : List Vector) → AllByRecursion (λ f. within 800000000 f ≡ true) fs → AllByRecursion (λ f. within 800000000 f ≡ true) (mirrored fs)
 all_mirrored [] a = tt
 all_mirrored (f ∷ fs) a = (within-neg 800000000 f a.0, all_mirrored fs a.1)
 

@@ -1,6 +1,6 @@
 -- A capture says the rows that it was saved from.
 use Rattle.std.proofs.Common.{◌≡◌, ℕ, zero, suc, ◌+◌, ◌-◌, ◌*◌, ◌/◌, ◌%◌, ◌<◌, true, List, [], ◌∷◌, ◌++◌, length, get_or, drop, ℤ, Ok, sym, refl, ap, ◌∙◌, zero-add, mul-suc, arith, w16, to_z}
-use Rattle.std.specs.List.{flat_map, AllByRecursion as All}
+use Rattle.std.specs.List.{flat_map, AllByRecursion}
 use Rattle.std.proofs.ByRecursion.{All-from_get_or}
 use Rattle.std.proofs.lemmas.List.{get_or-drop, drop_at, drop-drop, append_assoc}
 use Rattle.std.proofs.lemmas.List.FromFn.{fill_by_all}
@@ -73,7 +73,7 @@ trailer_back n z = λ t. record {
 -- ---- a table: w writes a row, r reads one, and P says which rows can be read back
 module _ {X : Type 0} (w : X → List ℕ) (width : ℕ) (wide : (x : X) → length (w x) ≡ width) (r : List ℕ → ℕ → X) (P : X → Type 0)
     (from : (bs : List ℕ) (i : ℕ) → r bs i ≡ r (drop i bs) 0) (back : (x : X) → P x → (rest : List ℕ) → r (w x ++ rest) 0 ≡ x) where
-  row_back : (bs : List ℕ) (at : ℕ) (xs : List X) (rest : List ℕ) → drop at bs ≡ flat_map w xs ++ rest → All P xs
+  row_back : (bs : List ℕ) (at : ℕ) (xs : List X) (rest : List ℕ) → drop at bs ≡ flat_map w xs ++ rest → AllByRecursion P xs
       → (k : ℕ) (d : X) → k < length xs → get_or xs k d ≡ r bs (at + width * k)
   row_back bs at [] rest e h k d l = absurd (omega arith)
   row_back bs at (x ∷ xs) rest e h zero d l =
@@ -85,7 +85,7 @@ module _ {X : Type 0} (w : X → List ℕ) (width : ℕ) (wide : (x : X) → len
       row_back bs (at + width) xs rest next h.1 k d (omega arith) ∙ ap (r bs) i
 
   -- the table that stands from a place on
-  table_back : (bs : List ℕ) (at : ℕ) (xs : List X) (rest : List ℕ) → drop at bs ≡ flat_map w xs ++ rest → All P xs → (d : X)
+  table_back : (bs : List ℕ) (at : ℕ) (xs : List X) (rest : List ℕ) → drop at bs ≡ flat_map w xs ++ rest → AllByRecursion P xs → (d : X)
       → each (length xs) (λ k. r bs (at + width * k)) ≡ xs
   table_back bs at xs rest e h d = sym (fill_by_all (λ k. r bs (at + width * k)) xs (length xs) d refl (λ k l. row_back bs at xs rest e h k d l))
 

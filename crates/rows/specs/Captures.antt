@@ -1,5 +1,5 @@
 -- The rows that a capture's bytes say, and the bytes that rows are saved as.
-use Rattle.std.specs.Prelude.{ℕ, ◌+◌, ◌-◌, ◌*◌, cond, not, List, [], ◌∷◌, ◌++◌, map, length, drop, Ok, Err, Result, nat_lt}
+use Rattle.std.specs.Prelude.{ℕ, ◌+◌, ◌-◌, ◌*◌, cond, not, List, ◌++◌, map, length, drop, Ok, Err, Result, nat_lt}
 use Rattle.std.specs.List.{range_with_len, flat_map}
 use Rattle.vector.specs.declared.Vector.{Vector}
 use Rattle.rows.specs.declared.counts.Counts.{Counts}

@@ -3,7 +3,7 @@ use Rattle.std.specs.Prelude.{ℕ, ◌+◌, List, [], ◌∷◌, ◌++◌, slice
 use Rattle.vector.specs.declared.Vector.{Vector}
 use Rattle.vector.specs.Vectors.{vector}
 use Rattle.rows.specs.declared.ridge.RidgeRow.{RidgeRow}
-use Rattle.rows.specs.Bytes.{i16_at, u32_at, two_bytes, four_bytes, in16}
+use Rattle.rows.specs.Bytes.{i16_at, two_bytes, in16}
 
 abbrev pub corner_at : List ℕ → ℕ → Vector
 corner_at bs i = vector (i16_at bs i) (i16_at bs (i + 2)) (i16_at bs (i + 4))

@@ -1,5 +1,5 @@
 -- The tetrahedron T, which a new place for a solid holds.
-use Rattle.std.specs.Prelude.{List, [], ◌∷◌, pos}
+use Rattle.std.specs.Prelude.{[], ◌∷◌, pos}
 use Rattle.vector.specs.Vectors.{vector}
 use Rattle.rows.specs.Captures.{Rows}
 

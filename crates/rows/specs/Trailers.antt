@@ -1,5 +1,5 @@
 -- The trailer of a capture, and the layout that it has to fit.
-use Rattle.std.specs.Prelude.{ℕ, ◌+◌, ◌*◌, Bool, ◌&&◌, List, [], ◌∷◌, ◌++◌, ◌==◌, slice_index}
+use Rattle.std.specs.Prelude.{ℕ, ◌+◌, ◌*◌, Bool, ◌&&◌, List, ◌∷◌, ◌++◌, ◌==◌, slice_index}
 use Rattle.rows.specs.declared.counts.Counts.{Counts}
 use Rattle.rows.specs.declared.trailer.Trailer.{Trailer}
 use Rattle.rows.specs.Bytes.{u16_at, two_bytes}

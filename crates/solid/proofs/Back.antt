@@ -1,11 +1,9 @@
 -- Saving a solid and reading it gives the same solid; reading a capture and saving it gives the same bytes.
-use Rattle.std.proofs.Common.{◌≡◌, ℕ, ◌^◌, ◌<◌, ◌≤◌, Bool, true, false, cond, ltb, ◌⊎◌, List, ◌++◌, length, get_or, take, drop, IfOk, Ok, Err, Result, sym, refl, ap, ◌∙◌, inl, inr, arith, pow_mono}
-use Rattle.std.specs.List.{AllByRecursion as All}
+use Rattle.std.proofs.Common.{◌≡◌, ℕ, ◌^◌, ◌<◌, Bool, true, false, cond, ltb, List, ◌++◌, length, get_or, take, drop, IfOk, Ok, Err, Result, refl, ap, ◌∙◌, arith, pow_mono}
 use Rattle.std.proofs.ByRecursion.{All-from_get_or}
 use Rattle.std.proofs.lemmas.List.{take_at}
-use Rattle.std.proofs.lemmas.Bool.{cases_Bool}
 use Rattle.refusal.specs.declared.Refusal.{Refusal}
-use Rattle.refusal.specs.Numbers.{told, number_of}
+use Rattle.refusal.specs.Numbers.{told}
 use Rattle.vector.specs.Vectors.{𝟎, within}
 use Rattle.vector.proofs.Bounds.{within_wider}
 use Rattle.rows.specs.Sizes.{sizes}

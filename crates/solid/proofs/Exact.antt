@@ -1,9 +1,9 @@
 -- Reading accepts exactly what keeps every rule, and refuses by the first that is broken.
-use Rattle.std.proofs.Common.{◌≡◌, ℕ, zero, suc, ◌+◌, ◌-◌, ◌<◌, ◌≤◌, Bool, true, false, cond, not, List, [], ◌∷◌, length, get_or, Ok, Err, Result, sym, refl, ap, ◌∙◌, subst, arith}
+use Rattle.std.proofs.Common.{◌≡◌, ℕ, zero, suc, ◌+◌, ◌-◌, ◌<◌, Bool, true, false, cond, not, List, [], ◌∷◌, length, get_or, Ok, Err, Result, sym, refl, ap, ◌∙◌, subst, arith}
 use Rattle.std.proofs.lemmas.Bool.{both_ways}
 use Rattle.rows.specs.Captures.{Rows, rows_in}
 use Rattle.solid.specs.Reading.{reading}
-use Rattle.solid.specs.Laws.{rules, Keeps, Accepted, Refused, Exact}
+use Rattle.solid.specs.Laws.{rules, Accepted, Refused, Exact}
 
 -- tests in their order, numbered from n
 abbrev chain : ℕ → List Bool → Rows → Result Rows ℕ

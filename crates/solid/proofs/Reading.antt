@@ -1,5 +1,5 @@
 -- Reading in two steps: the rows of the bytes, then the rules over the rows.
-use Rattle.std.proofs.Common.{◌≡◌, ℕ, Bool, true, false, cond, not, List, length, Ok, Err, Result, sym, refl, ap, ◌∙◌}
+use Rattle.std.proofs.Common.{◌≡◌, ℕ, Bool, true, false, cond, not, List, length, Ok, Err, Result, refl, ap, ◌∙◌}
 use Rattle.rows.specs.Sizes.{from_to}
 use Rattle.rows.specs.Trailers.{layout}
 use Rattle.rows.specs.Captures.{Rows, trailer_in, rows_in, decoding}

@@ -1,11 +1,10 @@
 -- What the invariant of a solid adds to the questions on rows.
-use Rattle.std.proofs.Common.{◌≡◌, ℕ, Bool, true, false, cond, ◌&&◌, ltb, ◌⊎◌, List, length, get_or, Some, None, Option, unwrap_or, sym, refl, ap, ◌∙◌, inl, inr, arith}
+use Rattle.std.proofs.Common.{◌≡◌, ℕ, Bool, true, false, cond, ◌&&◌, ltb, length, Some, None, unwrap_or, sym, refl, ap, ◌∙◌, inl, inr}
 use Rattle.std.proofs.lemmas.List.{get_or_past}
 use Rattle.std.proofs.lemmas.Bool.{cases_lt, lt-ltb, le-ltb}
-use Rattle.vector.specs.declared.Vector.{Vector}
-use Rattle.vector.specs.Vectors.{𝟎, ◌-ᵛ◌}
+use Rattle.vector.specs.Vectors.{𝟎}
 use Rattle.rows.specs.Captures.{Rows}
-use Rattle.rules.specs.Rules.{corner, mask, outward, direction, in_reach, lawful}
+use Rattle.rules.specs.Rules.{corner, mask, outward, direction, lawful}
 use Rattle.rules.proofs.Lawful.{reach_from_lawful}
 use Rattle.solid.specs.Questions.{corner_told, flat_told}
 

@@ -1,9 +1,9 @@
 -- Worked examples, as theorems about the definitions: the tetrahedron T.
-use Rattle.std.specs.Prelude.{◌≡◌, ℕ, true, List, [], ◌∷◌, map, length, drop, pos, negsuc, Ok, Err}
+use Rattle.std.specs.Prelude.{◌≡◌, true, [], ◌∷◌, map, length, drop, pos, negsuc, Ok, Err}
 use Rattle.vector.specs.Vectors.{vector}
 use Rattle.rows.specs.Captures.{capture, rows_in}
 use Rattle.rows.specs.Tetrahedron.{tetrahedron}
-use Rattle.rules.specs.Rules.{lawful, outward, ridge_vector}
+use Rattle.rules.specs.Rules.{lawful, outward}
 use Rattle.solid.specs.Reading.{reading}
 
 pub record Examples : Type 0 where

@@ -1,5 +1,5 @@
 -- Laws above the reading: what is accepted, which refusal comes, and that saving and reading undo each other.
-use Rattle.std.specs.Prelude.{◌≡◌, ℕ, ◌-◌, ◌<◌, ◌≤◌, Bool, true, false, List, [], ◌∷◌, length, Ok, Err, slice_index_or}
+use Rattle.std.specs.Prelude.{◌≡◌, ℕ, ◌-◌, ◌<◌, ◌≤◌, Bool, true, List, [], ◌∷◌, length, Ok, Err, slice_index_or}
 use Rattle.rows.specs.Bytes.{Bytes}
 use Rattle.rows.specs.Sizes.{from_to, sizes}
 use Rattle.rows.specs.Trailers.{layout}

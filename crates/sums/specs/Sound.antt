@@ -1,6 +1,6 @@
 -- The sum of two bodies is a body: its corners fit, and its flats and ridges are few and within range.
 use Rattle.std.specs.Prelude.{◌≡◌, true, cond, ◌&&◌, List, [], ◌∷◌, ◌++◌, length, nat_le}
-use Rattle.std.specs.List.{AllByRecursion as All}
+use Rattle.std.specs.List.{AllByRecursion}
 use Rattle.std.proofs.lemmas.Bool.{and_parts, cond_both, leb-true}
 use Rattle.vector.specs.declared.Vector.{Vector}
 use Rattle.vector.specs.Vectors.{◌⨯◌, negᵛ, within}
@@ -19,11 +19,11 @@ sum_sound (corners A) unfit = tt
 sum_sound (corners A) (corners B) = body_of_sound (sums A B)
 
 -- a product of ridges is within the range of flats
-with_within : (u : Vector) (ts : List Vector) → within 20000 u ≡ true → All (λ v. within 20000 v ≡ true) ts → All (λ f. within 800000000 f ≡ true) (products_with u ts)
+with_within : (u : Vector) (ts : List Vector) → within 20000 u ≡ true → AllByRecursion (λ v. within 20000 v ≡ true) ts → AllByRecursion (λ f. within 800000000 f ≡ true) (products_with u ts)
 with_within u [] h a = tt
 with_within u (v ∷ ts) h a = let k = cross-within u v h a.0 in (k, (within-neg 800000000 (u ⨯ v) k, with_within u ts h a.1))
 
-products_within : (rs ts : List Vector) → All (λ u. within 20000 u ≡ true) rs → All (λ v. within 20000 v ≡ true) ts → All (λ f. within 800000000 f ≡ true) (products rs ts)
+products_within : (rs ts : List Vector) → AllByRecursion (λ u. within 20000 u ≡ true) rs → AllByRecursion (λ v. within 20000 v ≡ true) ts → AllByRecursion (λ f. within 800000000 f ≡ true) (products rs ts)
 products_within [] ts a b = tt
 products_within (u ∷ rs) ts a b = all_both (λ f. within 800000000 f ≡ true) (products_with u ts) (products rs ts) (with_within u ts a.0 b) (products_within rs ts a.1 b)
 

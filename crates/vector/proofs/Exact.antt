@@ -2,7 +2,7 @@
 use Rattle.std.proofs.Common.{◌≡◌, true, false, ℤ, ◌≤ℤ◌, ◌<ℤ◌, sym, subst, arith, w64, SFits, to_z, of_z}
 use lib.Signed.{lt_z}
 use Rattle.std.specs.Int.{int_wrap}
-use Rattle.std.proofs.lemmas.Int.{ints, to_z-of_z, SFits-int_wrap}
+use Rattle.std.proofs.lemmas.Int.{ints, SFits-int_wrap}
 use Rattle.vector.specs.declared.Vector.{Vector}
 use Rattle.vector.specs.Vectors.{◌·◌, ◌⨯◌, ◌+ᵛ◌, ◌-ᵛ◌, negᵛ, within}
 use Rattle.vector.specs.Wrapped.{wrappedᵛ}

@@ -1,6 +1,6 @@
 -- Equations of polynomials over ℤ, by computing: `ring vs e f refl` proves `eval vs e ≡ eval vs f` where e and f have one normal form.
 -- A normal form is a list of terms, a coefficient with the sorted list of its variables, in the order of those lists and with no coefficient 0.
-use Rattle.std.proofs.Common.{◌≡◌, ℕ, zero, suc, true, false, T, eqb, ltb, List, [], ◌∷◌, ◌++◌, get_or, ℤ, pos, negsuc, ◌+ℤ◌, ◌*ℤ◌, neg_ℤ, sym, refl, ap, ◌∙◌, subst, arith, eqb→eq}
+use Rattle.std.proofs.Common.{◌≡◌, ℕ, zero, suc, true, false, T, ltb, List, [], ◌∷◌, ◌++◌, get_or, ℤ, pos, negsuc, ◌+ℤ◌, ◌*ℤ◌, neg_ℤ, sym, refl, ap, ◌∙◌, subst, arith, eqb→eq}
 use Prim.Native.Nat.{compare, Ordering}
 use lib.Dec.{compare_is_eq}
 use lib.IntN.{one, +ℤ_assoc, +ℤ_comm, +ℤ_idl, +ℤ_idr, *ℤ_comm, *ℤ-one, zero-*ℤ}

@@ -1,5 +1,5 @@
 -- Vectors of three whole numbers: products, sums, ranges and the order of corner rows.
-use Rattle.std.specs.Prelude.{ℕ, Bool, ◌&&◌, ◌||◌, ℤ, pos, negsuc, ◌+ℤ◌, ◌-ℤ◌, ◌*ℤ◌, neg_ℤ, int_le, int_lt}
+use Rattle.std.specs.Prelude.{ℕ, Bool, ◌&&◌, ◌||◌, ℤ, pos, ◌+ℤ◌, ◌-ℤ◌, ◌*ℤ◌, neg_ℤ, int_le, int_lt}
 use Rattle.std.specs.Int.{int_min, int_max}
 use Rattle.vector.specs.declared.Vector.{Vector}
 

@@ -1,4 +1,4 @@
-use Rattle.std.proofs.Common.{sym, ◌∙◌, arith, rules}
+use Rattle.std.proofs.Common.{sym, ◌∙◌, arith}
 use Rattle.rules.specs.Rules.{triple_listed}
 use Rattle.rules.proofs.Loops.{every_none, every_more, every_fails}
 use Rattle.rules.proofs.planes.pair_listed.Goals as goal

@@ -1,4 +1,4 @@
-use Rattle.std.proofs.Common.{sym, ◌∙◌, arith, rules}
+use Rattle.std.proofs.Common.{sym, ◌∙◌, arith}
 use Rattle.rules.specs.Rules.{meet_at}
 use Rattle.rules.proofs.Loops.{some_none, some_more, some_found}
 use Rattle.rules.proofs.ridges.is_listed.Goals as goal

@@ -1,4 +1,4 @@
-use Rattle.std.proofs.Common.{◌&&◌, ltb, sym, ◌∙◌, arith, rules}
+use Rattle.std.proofs.Common.{◌&&◌, ltb, sym, ◌∙◌, arith}
 use Rattle.std.proofs.lemmas.Bool.{and_right}
 use Rattle.rules.specs.Masks.{share_two, holds}
 use Rattle.rules.specs.Rules.{mask, meets_before}

@@ -1,4 +1,4 @@
-use Rattle.std.proofs.Common.{sym, ◌∙◌, arith, rules}
+use Rattle.std.proofs.Common.{sym, ◌∙◌, arith}
 use Rattle.rules.specs.Rules.{meetings_listed}
 use Rattle.rules.proofs.Loops.{every_none, every_more, every_fails}
 use Rattle.rules.proofs.ridges.ridges_complete.Goals as goal
