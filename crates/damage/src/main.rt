@@ -19,7 +19,8 @@ fn place(finding: Finding) -> usize
             saved: _,
             same: _,
         } => 0,
-        Finding::Refused(cause) => usize::from(cause.number()),
+        // reading refuses by 1 to 8; any other number would be counted at the last place
+        Finding::Refused(cause) => usize::from(cause.number()).min(9),
     }
 }
 
