@@ -1,5 +1,5 @@
 -- The extent and the farthest corner, found one corner after the other from the answers of a body.
-use Rattle.std.proofs.Common.{◌≡◌, ℕ, zero, suc, ◌+◌, ◌<◌, ◌≤◌, true, false, cond, List, [], ◌∷◌, ◌++◌, length, get_or, take, ℤ, Ok, Err, Result, sym, refl, ap, ◌∙◌, subst, arith, w64, to_z, of_z}
+use Rattle.std.proofs.Common.{◌≡◌, ℕ, ◌+◌, ◌≤◌, true, false, List, [], ◌∷◌, length, get_or, take, ℤ, Ok, Err, sym, refl, ap, ◌∙◌, subst, arith, w64, to_z, of_z}
 use lib.Signed.{lt_z}
 use Rattle.std.specs.Int.{int_wrap}
 use Rattle.std.proofs.lemmas.List.{take_more, take_all, length-take-le}
@@ -9,7 +9,7 @@ use Rattle.vector.specs.Vectors.{◌·◌, within, 𝟎}
 use Rattle.vector.proofs.Order.{lin}
 use Rattle.vector.proofs.Exact.{dot_exact, less_by_bits, not_less_by_bits}
 use Rattle.body.specs.declared.extent.Extent.{Extent}
-use Rattle.body.specs.Meaning.{Meaning, unfit, corners, Sound}
+use Rattle.body.specs.Meaning.{Meaning, Sound}
 use Rattle.body.specs.Extents.{extent, extent_of, widened, farthest}
 use Rattle.body.specs.Answers.{count_answer, corner_answer, extent_answer, farthest_answer}
 use Rattle.body.proofs.Told.{corners_in, reached_at, told_count, told_corner}

@@ -1,24 +1,24 @@
 -- The extent of a list of corners: its numbers are reached, one corner more widens it, and it tells whether all corners are within reach.
-use Rattle.std.proofs.Common.{◌≡◌, ℕ, ◌≤◌, Bool, true, false, cond, ◌&&◌, List, [], ◌∷◌, ◌++◌, length, ℤ, pos, ◌+ℤ◌, neg_ℤ, ◌≤ℤ◌, Ok, Err, sym, refl, ap, ◌∙◌, subst, inl, inr, arith}
+use Rattle.std.proofs.Common.{◌≡◌, ℕ, ◌≤◌, true, false, List, [], ◌∷◌, ◌++◌, length, ℤ, pos, neg_ℤ, ◌≤ℤ◌, Ok, Err, sym, refl, ap, ◌∙◌, subst, inl, inr, arith}
 use lib.Signed.{le_z}
 use Rattle.std.specs.Int.{int_min, int_max}
 use Rattle.std.specs.List.{AllByRecursion}
 use Rattle.std.proofs.lemmas.Int.{ints}
-use Rattle.std.proofs.lemmas.Bool.{and_parts, and_from, and_right, cases_Bool, both_ways, cond-true, cond-false}
+use Rattle.std.proofs.lemmas.Bool.{and_parts, and_from, cases_Bool, both_ways, cond-true, cond-false}
 use Rattle.vector.specs.declared.Vector.{Vector}
 use Rattle.vector.specs.Vectors.{vector, ◌·◌, inside, within}
 use Rattle.vector.proofs.Ring.{var, num, ring}
-use Rattle.vector.proofs.Identities.{VectorExp, ◌·ₑ◌, vec, env}
+use Rattle.vector.proofs.Identities.{◌·ₑ◌, vec, env}
 use Rattle.vector.proofs.Bounds.{ranges, within_ranges}
 use Rattle.convex.specs.Points.{◌∈◌}
 use Rattle.convex.specs.Products.{greatest, least}
 use Rattle.convex.proofs.Members.{all_in, all_from_in}
 use Rattle.convex.proofs.Products.{products_are_reached}
 use Rattle.convex.proofs.Extremes.{greatest_push, least_push}
-use Rattle.body.specs.Meaning.{corners, unfit, reached, fits, body_of}
+use Rattle.body.specs.Meaning.{reached, fits, body_of}
 use Rattle.body.specs.Extents.{x⁺, y⁺, z⁺, extent, extent_of, widened, extent_reached}
 use Rattle.body.specs.Answers.{extent_answer, reached_answer}
-use Rattle.body.specs.Theorems.{Tight, ExtentIsTight}
+use Rattle.body.specs.Theorems.{ExtentIsTight}
 use Rattle.body.proofs.Told.{fits_from, fits_parts, body_fit, body_unfit}
 
 -- ---- a coordinate is the product with its axis

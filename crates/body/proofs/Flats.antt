@@ -1,23 +1,25 @@
 -- A direction and the flats of a sided body: where it is along none of them, the law of flats says that it is no face.
-use Rattle.std.proofs.Common.{◌≡◌, ℕ, zero, suc, ◌+◌, ◌<◌, ◌≤◌, Bool, true, false, cond, ◌&&◌, ◌⊎◌, List, [], ◌∷◌, length, get_or, drop, ℤ, pos, ◌*ℤ◌, ◌≤ℤ◌, ◌<ℤ◌, Some, None, Ok, Err, Option, Result, sym, refl, ap, ◌∙◌, subst, inl, inr, arith}
-use lib.IntN.{ℤ_discrete}
+use Rattle.std.proofs.Common.{◌≡◌, ℕ, suc, ◌+◌, ◌<◌, ◌≤◌, true, false, cond, ◌&&◌, List, [], ◌∷◌, length, get_or, drop, ℤ, pos, ◌<ℤ◌, Some, None, Ok, Err, Option, sym, refl, ap, ◌∙◌, subst, inl, inr, arith, w64, to_z, of_z}
 use lib.Signed.{lt_z}
 use Rattle.std.proofs.lemmas.List.{at_drop_more, at_drop_all}
-use Rattle.std.proofs.lemmas.Int.{ints}
+use Rattle.std.specs.Int.{int_wrap}
+use Rattle.std.proofs.lemmas.Int.{ints, to_z-of_z}
 use Rattle.std.proofs.lemmas.Bool.{and_parts, and_from, cond_both, cond-true, cond-false, cases_Bool, both_ways}
 use Rattle.vector.specs.declared.Vector.{Vector}
 use Rattle.vector.specs.Vectors.{◌·◌, ◌⨯◌, ◌∗◌, is_zero, within, 𝟎}
+use Rattle.vector.specs.Wrapped.{wrappedᵛ}
+use Rattle.vector.proofs.Bounds.{fits_inside, wrapped_inside, wrappedᵛ-within, within-cross, inside-dot}
 use Rattle.vector.proofs.Ring.{var}
 use Rattle.vector.proofs.Order.{lin, mul_pos, times_nought, cancel_lt}
 use Rattle.vector.proofs.Identities.{◌⨯ₑ◌, ◌∗ₑ◌, 𝟎ₑ, vec, env, ringᵛ, dot_comm, dot_nothing, norm_pos, times-𝟎, cancel_times}
 use Rattle.convex.specs.Points.{◌∈◌}
 use Rattle.convex.specs.Faces.{Face}
-use Rattle.convex.specs.Sides.{Multiple, Sided}
+use Rattle.convex.specs.Sides.{Multiple}
 use Rattle.convex.proofs.Lines.{same_way, multiple_dot}
 use Rattle.convex.proofs.Tests.{zero_from, below_from}
 use Rattle.body.specs.Meaning.{Meaning, unfit, corners}
 use Rattle.body.specs.Sides.{Sides, unlisted, listed, Bounded, Laws}
-use Rattle.body.specs.Answers.{numbered, flat_count_answer, flat_answer}
+use Rattle.body.specs.Answers.{flat_count_answer, flat_answer}
 use Rattle.body.specs.Along.{along, first_along, along_answer, Says}
 use Rattle.body.proofs.Numbered.{no_ok, same_ok, numbered_in, told_past, told_all}
 use Rattle.body.proofs.Told.{corners_in}
@@ -54,6 +56,22 @@ along_from n f h m = and_from (is_zero (f ⨯ n)) (lt_z (pos 0) (f · n)) (ap is
 
     above : (k : ℤ) → pos 0 <ℤ k → lt_z (pos 0) k ≡ true
     above k h = grind (arith, ints)
+
+-- ---- the test as it is computed, modulo 2^64: exact within the ranges
+module _ (n f x : Vector) (near_n : within 800000000 n ≡ true) (near_f : within 800000000 f ≡ true) (cross_is : x ≡ wrappedᵛ (f ⨯ n)) where
+  crossed : is_zero x ≡ is_zero (f ⨯ n)
+  crossed = ap is_zero (cross_is ∙ wrappedᵛ-within 1280000000000000000 (f ⨯ n) (omega arith) (within-cross 800000000 800000000 f n near_f near_n))
+
+  pub along_by_dot : (d : ℤ) → d ≡ int_wrap w64 (f · n) → is_zero x ≡ true → lt_z (pos 0) (to_z w64 (of_z w64 d)) ≡ along n f
+  along_by_dot d dot_is crossing =
+      let small = inside-dot 800000000 800000000 f n near_f near_n in
+      let exact = dot_is ∙ wrapped_inside 1920000000000000000 (f · n) (omega arith) small in
+      let fits = fits_inside 1920000000000000000 (f · n) (omega arith) small in
+      ap (λ z. lt_z (pos 0) (to_z w64 (of_z w64 z))) exact ∙ ap (lt_z (pos 0)) (to_z-of_z w64 (f · n) fits)
+      ∙ sym (ap (λ b. b && lt_z (pos 0) (f · n)) (sym crossed ∙ crossing))
+
+  pub no_line : is_zero x ≡ false → false ≡ along n f
+  no_line e = sym (ap (λ b. b && lt_z (pos 0) (f · n)) (sym crossed ∙ e))
 
 -- ---- the first flat, if any
 found : (n : Vector) (i : ℕ) (fs : List Vector) (k : ℕ) → first_along n i fs ≡ Some k → (j : ℕ) × (k ≡ i + j) × (j < length fs) × (along n (get_or fs j 𝟎) ≡ true)

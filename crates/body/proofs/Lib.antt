@@ -3,5 +3,5 @@ pub mod Told
 pub mod Farthest
 pub mod Extents
 pub mod Alike
-mod Flats
+pub mod Flats
 mod Asking

@@ -1,5 +1,5 @@
 -- The flats and ridges of a sided body: too many to be listed, or two lists, with the two laws that they keep over the corners.
-use Rattle.std.specs.Prelude.{◌≡◌, ℕ, ◌≤◌, true, cond, ◌&&◌, List, length, nat_le}
+use Rattle.std.specs.Prelude.{◌≡◌, ◌≤◌, true, cond, ◌&&◌, List, length, nat_le}
 use Rattle.std.specs.List.{AllByRecursion}
 use Rattle.vector.specs.declared.Vector.{Vector}
 use Rattle.vector.specs.Vectors.{within}

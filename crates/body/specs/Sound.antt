@@ -1,5 +1,5 @@
 -- Corners that are tested, or unfit: either way the meaning is sound.
-use Rattle.std.specs.Prelude.{◌≡◌, true, cond, List}
+use Rattle.std.specs.Prelude.{List}
 use Rattle.std.proofs.lemmas.Bool.{cond_both}
 use Rattle.vector.specs.declared.Vector.{Vector}
 use Rattle.body.specs.Meaning.{unfit, corners, fits, body_of, Sound}

@@ -1,4 +1,4 @@
-use Rattle.std.proofs.Common.{◌≡◌, ◌≤◌, sym, ◌∙◌, arith}
+use Rattle.std.proofs.Common.{◌≤◌, sym, ◌∙◌, arith}
 use Rattle.body.proofs.Told.{no_corner_missing, told_count}
 use Rattle.body.proofs.Asking.{farthest_begun, farthest_taken, farthest_kept, farthest_ends}
 use Rattle.body.proofs.body.Body.farthest.Goals as goal
