@@ -1,5 +1,5 @@
 -- What a mirrored body answers, from the answers of the body.
-use Rattle.std.proofs.Common.{◌≡◌, ℕ, ◌≤◌, true, cond, List, length, ℤ, pos, ◌+ℤ◌, neg_ℤ, Ok, Err, Result, sym, refl, ap, ◌∙◌, subst, arith}
+use Rattle.std.proofs.Common.{◌≡◌, ℕ, ◌≤◌, true, List, length, pos, ◌+ℤ◌, Ok, Err, sym, refl, ap, ◌∙◌, arith}
 use Rattle.std.proofs.lemmas.List.{length-map}
 use Rattle.std.proofs.lemmas.Bool.{and_parts, cond-true}
 use Rattle.vector.specs.declared.Vector.{Vector}
@@ -9,7 +9,6 @@ use Rattle.vector.proofs.Order.{lin}
 use Rattle.vector.proofs.Exact.{neg_exact, neg_corner_exact}
 use Rattle.vector.proofs.Bounds.{within-neg}
 use Rattle.vector.proofs.Identities.{dot-neg, neg-dot}
-use Rattle.convex.specs.Products.{greatest, least}
 use Rattle.convex.specs.Sides.{mirrored}
 use Rattle.convex.proofs.Extremes.{greatest-mirrored, least-mirrored}
 use Rattle.convex.proofs.Mirrors.{mirror_keeps_laws}

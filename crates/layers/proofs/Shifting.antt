@@ -1,5 +1,5 @@
 -- What a shifted body answers, from the answers of the body.
-use Rattle.std.proofs.Common.{◌≡◌, ℕ, ◌≤◌, Bool, true, false, cond, List, length, ℤ, ◌+ℤ◌, Ok, Err, Result, sym, refl, ap, ◌∙◌, subst, inl, inr, arith}
+use Rattle.std.proofs.Common.{◌≡◌, ℕ, ◌≤◌, true, false, cond, List, length, ℤ, ◌+ℤ◌, Ok, Err, Result, sym, refl, ap, ◌∙◌, subst, inl, inr, arith}
 use Rattle.std.proofs.lemmas.List.{length-map}
 use Rattle.std.proofs.lemmas.Bool.{and_parts, cond-true, cond-false, cases_Bool}
 use Rattle.vector.specs.declared.Vector.{Vector}
@@ -14,8 +14,8 @@ use Rattle.convex.proofs.Shifts.{shift_keeps_laws}
 use Rattle.body.specs.declared.extent.Extent.{Extent}
 use Rattle.body.specs.Meaning.{Meaning, unfit, corners, fits, body_of, Sound}
 use Rattle.body.specs.Sides.{Sides, unlisted, listed, Laws}
-use Rattle.body.specs.Extents.{x⁺, y⁺, z⁺, extent, extent_of, extent_reached, farthest}
-use Rattle.body.specs.Answers.{numbered, count_answer, corner_answer, extent_answer, farthest_answer, reached_answer, flat_count_answer, flat_answer, ridge_count_answer, ridge_answer}
+use Rattle.body.specs.Extents.{x⁺, y⁺, z⁺, extent, extent_of, extent_reached}
+use Rattle.body.specs.Answers.{count_answer, corner_answer, extent_answer, farthest_answer, reached_answer, flat_count_answer, flat_answer, ridge_count_answer, ridge_answer}
 use Rattle.body.proofs.Numbered.{no_ok, mapped, numbered-map}
 use Rattle.body.proofs.Told.{corners_in, Fit, fit, told_extent, told_corner, body_fit, body_unfit}
 use Rattle.body.proofs.Extents.{along_x, along_y, along_z, extent_near, decided}

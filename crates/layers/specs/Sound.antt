@@ -1,5 +1,5 @@
 -- The layers over a body are bodies: their corners fit, and their flats and ridges are few and within range.
-use Rattle.std.specs.Prelude.{◌≡◌, ℕ, ◌≤◌, true, cond, List, [], ◌∷◌, length, refl}
+use Rattle.std.specs.Prelude.{◌≡◌, ℕ, ◌≤◌, true, List, [], ◌∷◌, refl}
 use Rattle.std.proofs.Common.{sym, subst}
 use Rattle.std.specs.List.{AllByRecursion}
 use Rattle.std.proofs.lemmas.List.{length-map}
@@ -8,8 +8,8 @@ use Rattle.vector.specs.declared.Vector.{Vector}
 use Rattle.vector.specs.Vectors.{negᵛ, within}
 use Rattle.vector.proofs.Bounds.{within-neg}
 use Rattle.convex.specs.Sides.{shifted, mirrored}
-use Rattle.body.specs.Meaning.{Meaning, unfit, corners, reached, fits, body_of, Sound}
-use Rattle.body.specs.Sides.{Sides, unlisted, listed, Few, Bounded}
+use Rattle.body.specs.Meaning.{Meaning, unfit, corners, reached, body_of, Sound}
+use Rattle.body.specs.Sides.{Sides, unlisted, listed, Bounded}
 use Rattle.body.specs.Sound.{body_of_sound}
 use Rattle.body.proofs.Told.{fits_parts, fits_from}
 use Rattle.layers.specs.Layers.{shift_meaning, mirror_meaning, mirror_sides}

@@ -1,5 +1,5 @@
 use Rattle.std.proofs.Common.{inl, inr}
-use Rattle.sums.proofs.sum.Sum.listing.Goals.{then-flats-gt-MOST-FLATS-via-then-flats-gt-MOST-FLATS as by-flats, then-flats-gt-MOST-FLATS-via-else-flats-gt-MOST-FLATS+then-first-second-gt-MOST-RIDGES as by-ridges}
+use Rattle.sums.proofs.sum.Sum.listing.Goals.{then-flats-gt-MOST_FLATS-via-then-flats-gt-MOST_FLATS as by-flats, then-flats-gt-MOST_FLATS-via-else-flats-gt-MOST_FLATS+then-first-second-gt-MOST_RIDGES as by-ridges}
 use Rattle.sums.proofs.Corners.{told_by_extent}
 use Rattle.sums.proofs.Flats.{sum_laws, listing_few, listing_many}
 use Rattle.sums.proofs.sum.Sum.listing.Goals as goal
