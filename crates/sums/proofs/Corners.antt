@@ -1,5 +1,5 @@
 -- What the sum of two bodies answers on its corners, from the answers of the parts.
-use Rattle.std.proofs.Common.{◌≡◌, ℕ, suc, ◌+◌, ◌*◌, ◌/◌, ◌%◌, ◌<◌, ◌≤◌, true, false, cond, ◌&&◌, leb, List, length, get_or, ℤ, ◌+ℤ◌, ◌≤ℤ◌, ◌<ℤ◌, Ok, Err, Result, sym, refl, ap, ◌∙◌, subst, inl, inr, suc-mul, mul_comm, arith}
+use Rattle.std.proofs.Common.{◌≡◌, ℕ, suc, ◌+◌, ◌*◌, ◌/◌, ◌%◌, ◌<◌, ◌≤◌, true, false, ◌&&◌, leb, List, length, get_or, ◌+ℤ◌, ◌≤ℤ◌, ◌<ℤ◌, Ok, Err, Result, sym, refl, ap, ◌∙◌, subst, inl, inr, suc-mul, mul_comm, arith}
 use Rattle.std.proofs.lemmas.Nat.{mul-add-lt, mul-le, mul-lt}
 use Rattle.std.proofs.lemmas.Bool.{and_parts, and_left, and_right, lt-leb, cond-true, cases_Bool, cases_order}
 use Rattle.vector.specs.declared.Vector.{Vector}

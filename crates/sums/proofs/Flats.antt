@@ -1,25 +1,23 @@
 -- What the sum of two sided bodies answers on its flats and ridges, from the answers of the parts.
-use Rattle.std.proofs.Common.{◌≡◌, ℕ, ◌+◌, ◌-◌, ◌*◌, ◌/◌, ◌%◌, ◌<◌, ◌≤◌, Bool, true, false, cond, ◌&&◌, leb, ◌⊎◌, List, ◌++◌, length, get_or, Ok, Err, Result, sym, refl, ap, ◌∙◌, subst, inl, inr, arith}
-use Rattle.std.specs.List.{AllByRecursion}
-use Rattle.std.proofs.lemmas.Nat.{mul-le}
+use Rattle.std.proofs.Common.{◌≡◌, ℕ, ◌+◌, ◌-◌, ◌*◌, ◌/◌, ◌%◌, ◌<◌, ◌≤◌, true, cond, ◌&&◌, leb, ◌⊎◌, List, ◌++◌, length, get_or, Ok, Err, sym, refl, ap, ◌∙◌, subst, inl, inr, arith}
 use Rattle.std.proofs.lemmas.List.{length-append}
 use Rattle.std.proofs.lemmas.Bool.{and_from, and_left, and_right, le-leb, lt-leb, cond_both, cond-true, cond-false, cases_Bool}
 use Rattle.vector.specs.declared.Vector.{Vector}
 use Rattle.vector.specs.Vectors.{◌⨯◌, negᵛ, within, 𝟎}
 use Rattle.vector.specs.Wrapped.{wrappedᵛ}
 use Rattle.vector.proofs.Exact.{cross-within, cross_exact, neg_exact}
-use Rattle.convex.specs.Sides.{Sided, sums, products, sum_flats}
+use Rattle.convex.specs.Sides.{sums, products, sum_flats}
 use Rattle.convex.proofs.Numbering.{length-products}
 use Rattle.convex.proofs.Sums.{sum_keeps_laws}
 use Rattle.body.specs.Meaning.{Meaning, unfit, corners, Sound}
-use Rattle.body.specs.Sides.{Sides, unlisted, listed, sides_of, Bounded, Laws}
+use Rattle.body.specs.Sides.{Sides, unlisted, listed, Bounded, Laws}
 use Rattle.body.specs.Answers.{numbered, flat_count_answer, flat_answer, ridge_count_answer, ridge_answer}
-use Rattle.body.proofs.Numbered.{no_ok, same_ok, numbered_in, numbered_past, numbered_left, numbered_right, told_entry, told_past, told_all}
-use Rattle.body.proofs.Told.{corners_in, Fit}
+use Rattle.body.proofs.Numbered.{no_ok, same_ok, numbered_past, numbered_left, numbered_right, told_entry, told_past, told_all}
+use Rattle.body.proofs.Told.{corners_in}
 use Rattle.sums.specs.declared.listing.Counts.{Counts}
 use Rattle.sums.specs.declared.listing.Listing.{Listing}
 use Rattle.sums.specs.Sums.{sum_meaning, sum_sides, counts_of, counts_answer, listing_answer, product_answer}
-use Rattle.sums.proofs.Numbering.{some_columns, row_below, column_below, half, numbered_product, numbered_opposite}
+use Rattle.sums.proofs.Numbering.{row_below, column_below, half, numbered_product, numbered_opposite}
 use Rattle.sums.proofs.Corners.{Told, fit_told}
 
 -- ---- the laws

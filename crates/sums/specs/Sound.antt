@@ -1,9 +1,9 @@
 -- The sum of two bodies is a body: its corners fit, and its flats and ridges are few and within range.
-use Rattle.std.specs.Prelude.{◌≡◌, true, cond, ◌&&◌, List, [], ◌∷◌, ◌++◌, length, nat_le}
+use Rattle.std.specs.Prelude.{◌≡◌, true, ◌&&◌, List, [], ◌∷◌, ◌++◌, length, nat_le}
 use Rattle.std.specs.List.{AllByRecursion}
 use Rattle.std.proofs.lemmas.Bool.{and_parts, cond_both, leb-true}
 use Rattle.vector.specs.declared.Vector.{Vector}
-use Rattle.vector.specs.Vectors.{◌⨯◌, negᵛ, within}
+use Rattle.vector.specs.Vectors.{◌⨯◌, within}
 use Rattle.vector.proofs.Bounds.{within-neg}
 use Rattle.vector.proofs.Exact.{cross-within}
 use Rattle.convex.specs.Sides.{sums, products_with, products, sum_flats}

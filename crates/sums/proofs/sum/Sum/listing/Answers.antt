@@ -14,8 +14,8 @@ returns-then-flats-gt-MOST_FLATS g c =
     record {
       answer = listing_many m o t a b c.in_ok-first.first c.in_ok-second.second c.in_ok-first.ensures.answer c.in_ok-second.ensures.answer
           (elim c.then-flats-gt-MOST_FLATS.branch [
-            | by-flats w ↦ inl w.if-flats-gt-MOST_FLATS.taken
-            | by-ridges w ↦ inr w.if-first-second-gt-MOST_RIDGES.taken
+            | by-flats w ↦ inl w.if-flats-gt-MOST_FLATS.true
+            | by-ridges w ↦ inr w.if-first-second-gt-MOST_RIDGES.true
           ]);
       laws = sum_laws m o t a b c.in_ok-first.ensures.laws c.in_ok-second.ensures.laws;
     }

@@ -1,4 +1,4 @@
-use Rattle.std.proofs.Common.{◌*◌, ◌≤◌, arith, rules}
+use Rattle.std.proofs.Common.{rules}
 use Rattle.std.proofs.lemmas.Result.{err_from_is_err_and}
 use Rattle.sums.proofs.Corners.{told_by_extent, direction_refused, number_small, sum_farthest}
 use Rattle.sums.proofs.sum.SumBody.farthest.Goals as goal
