@@ -1,14 +1,13 @@
 -- Little-endian numbers in a list of bytes.
 use Rattle.std.specs.Prelude.{ℕ, ◌+◌, ◌*◌, ◌/◌, ◌%◌, ◌<◌, List, [], ◌∷◌, ◌++◌, length, take, drop, ℤ, pos, slice_index, unsigned_abs}
-use Rattle.std.proofs.Common.{to_z}
-use Rattle.std.specs.Int.{int_rem_euclid, w16}
+use Rattle.std.specs.Int.{int_rem_euclid, cast_signed, w16}
 
 abbrev pub u16_at : List ℕ → ℕ → ℕ
 u16_at bs i = slice_index bs i + 256 * slice_index bs (i + 1)
 
 -- two's complement
 abbrev pub i16_at : List ℕ → ℕ → ℤ
-i16_at bs i = to_z w16 (u16_at bs i)
+i16_at bs i = cast_signed w16 (u16_at bs i)
 
 abbrev pub u32_at : List ℕ → ℕ → ℕ
 u32_at bs i = slice_index bs i + 256 * (slice_index bs (i + 1) + 256 * (slice_index bs (i + 2) + 256 * slice_index bs (i + 3)))
