@@ -8,9 +8,9 @@ use Rattle.vector.specs.Vectors.{◌·◌, negᵛ, eq_z, is_zero}
 use Rattle.vector.proofs.Identities.{neg-dot, neg-neg}
 use Rattle.rules.specs.Tests.{some}
 use Rattle.rules.specs.Masks.{lies}
-use Rattle.rules.specs.Rules.{corner, first_corner, normal, faces, is_outward, is_left_out, is_flat, flat_lies, mask, outward}
+use Rattle.rules.specs.Rules.{corner, first_corner, normal, faces, is_outward, is_left_out, is_flat, is_below, is_above, mask, outward}
 use Rattle.rules.specs.Laws.{FlatsFaceOut}
-use Rattle.rules.proofs.Loops.{every_at, every_fails, some_at}
+use Rattle.rules.proofs.Loops.{every_at, every_fails, some_at, all_at}
 use Rattle.rules.proofs.Lawful.{kept}
 
 -- ---- opposites
@@ -20,6 +20,13 @@ not_below a b h = grind (arith, ints)
 -- a corner that is lower in a direction is not lower in the opposite one
 not_lower : (n c p : Vector) → lt_z (n · c) (n · p) ≡ true → lt_z (negᵛ n · c) (negᵛ n · p) ≡ false
 not_lower n c p h = (λ i. lt_z (neg-dot n c i) (neg-dot n p i)) ∙ not_below (n · c) (n · p) h
+
+lower_opposite : (a b : ℤ) → lt_z (neg_ℤ a) (neg_ℤ b) ≡ lt_z b a
+lower_opposite a b = grind (arith, ints)
+
+-- a corner lies above a plane where it lies below in the opposite direction
+pub below_opposite : (cs : List Vector) (n p : Vector) → some (length cs) (is_below cs (negᵛ n) p) ≡ some (length cs) (is_above cs n p)
+below_opposite cs n p = λ i. some (length cs) (λ k. ((λ j. lt_z (neg-dot n (corner cs k) j) (neg-dot n p j)) ∙ lower_opposite (n · corner cs k) (n · p)) i)
 
 module _ (cs : List Vector) (m : ℕ) where
   -- a corner that is left out has to be lower
@@ -56,5 +63,5 @@ module _ (cs : List Vector) (m : ℕ) where
 
 pub flats_face_out : FlatsFaceOut
 flats_face_out R h k l =
-    let o = one_outward R.corners (mask R.flats k) (every_at (flat_lies R.corners R.flats) (length R.flats) k l (kept R h).five) in
+    let o = one_outward R.corners (mask R.flats k) (all_at (is_flat R.corners) R.flats k 0 l (kept R h).five) in
     record { out = o.0; only = o.1 }

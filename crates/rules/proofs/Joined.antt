@@ -1,13 +1,14 @@
 -- A ridge row names two corners of the solid, the lower first.
-use Rattle.std.proofs.Common.{◌≡◌, ℕ, ◌-◌, ◌<◌, true, ◌&&◌, ltb, length}
+use Rattle.std.proofs.Common.{◌≡◌, ℕ, ◌<◌, true, ◌&&◌, ltb, length}
 use Rattle.std.proofs.lemmas.Bool.{and_parts, ltb-true}
 use Rattle.rows.specs.declared.ridge.RidgeRow.{RidgeRow}
 use Rattle.rows.specs.Captures.{Rows}
-use Rattle.rules.specs.Tests.{every}
+use Rattle.std.specs.List.{list_all}
+use Rattle.rules.specs.Tests.{each_next, each_two, some_two}
 use Rattle.rules.specs.Masks.{lies, holds, share_two, meet_in}
-use Rattle.rules.specs.Rules.{mask, ridge, ridge_rises, meetings_listed, meets_before, meets_some, ridge_true, lawful}
+use Rattle.rules.specs.Rules.{mask, ridge, ridge_before, meeting_listed, lawful}
 use Rattle.rules.specs.Laws.{RidgesJoinCorners}
-use Rattle.rules.proofs.Loops.{every_at, some_at}
+use Rattle.rules.proofs.Loops.{all_at, later_at}
 use Rattle.rules.proofs.Bits.{bit_below}
 use Rattle.rules.proofs.Lawful.{kept, mask_from_lawful}
 
@@ -20,18 +21,16 @@ meeting e g h t =
     (ltb-true e.low e.high r.1, (and_parts (lies e.low h) (lies e.high h) p.1).1)
 
 -- in each ridge of lawful rows two flats meet
-true_from_lawful : (R : Rows) → lawful R ≡ true → (k : ℕ) → k < length R.ridges → ridge_true R.flats R.ridges k ≡ true
+true_from_lawful : (R : Rows) → lawful R ≡ true → (k : ℕ) → k < length R.ridges → some_two (meet_in (ridge R.ridges k)) R.flats ≡ true
 true_from_lawful R h k l =
     let ms = R.flats in
     let es = R.ridges in
-    let met = (and_parts (every (length es - 1) (ridge_rises es) && every (length ms) (meetings_listed ms es)) (every (length es) (ridge_true ms es)) (kept R h).eight).1 in
-    every_at (ridge_true ms es) (length es) k l met
+    let met = (and_parts (each_next ridge_before es && each_two (meeting_listed es) ms) (list_all (λ e. some_two (meet_in e) ms) es) (kept R h).eight).1 in
+    all_at (λ e. some_two (meet_in e) ms) es k record { low = 0; high = 0 } l met
 
 pub ridges_join_corners : RidgesJoinCorners
 ridges_join_corners R h k l =
-    let ms = R.flats in
     let e = ridge R.ridges k in
-    let second = some_at (meets_some ms e) (length ms) (true_from_lawful R h k l) in
-    let first = some_at (meets_before ms e second.0) second.0 second.2 in
-    let m = meeting e (mask ms first.0) (mask ms second.0) first.2 in
-    record { rising = m.0; within_corners = bit_below e.high (mask ms second.0) (length R.corners) (mask_from_lawful R h second.0 second.1) m.1 }
+    let later = later_at (meet_in e) R.flats 0 (true_from_lawful R h k l) in
+    let m = meeting e later.1 (mask R.flats later.0) later.3 in
+    record { rising = m.0; within_corners = bit_below e.high (mask R.flats later.0) (length R.corners) (mask_from_lawful R h later.0 later.2) m.1 }

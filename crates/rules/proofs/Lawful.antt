@@ -1,11 +1,13 @@
 -- Rows are lawful exactly when no rule refuses them.
-use Rattle.std.proofs.Common.{◌≡◌, ℕ, ◌-◌, ◌^◌, ◌<◌, Bool, true, false, cond, not, ◌&&◌, ltb, leb, length, Ok, Err, Result, refl}
+use Rattle.std.proofs.Common.{◌≡◌, ℕ, ◌^◌, ◌<◌, Bool, true, false, cond, not, ◌&&◌, ltb, leb, length, Ok, Err, Result, sym, refl}
 use lib.Count.{ones}
 use Rattle.std.proofs.lemmas.Bool.{and_parts, ltb-true}
 use Rattle.rows.specs.Captures.{Rows}
-use Rattle.rules.specs.Tests.{every}
-use Rattle.rules.proofs.Loops.{every_at}
-use Rattle.rules.specs.Rules.{mask, in_reach, corner_rises, mask_fits, mask_rises, rule_3, rule_4, rule_5, rule_6, rule_7, rule_8, lawful, checking}
+use Rattle.std.specs.List.{list_all}
+use Rattle.vector.specs.Vectors.{precedes}
+use Rattle.rules.specs.Tests.{each_next}
+use Rattle.rules.proofs.Loops.{all_at}
+use Rattle.rules.specs.Rules.{mask, in_reach, mask_fits, rule_3, rule_4, rule_5, rule_6, rule_7, rule_8, lawful, checking}
 
 -- six tests in a row
 abbrev chain : Bool → Bool → Bool → Bool → Bool → Bool → Result (Unit {0}) ℕ
@@ -29,6 +31,10 @@ passes true true false d e f h = cc
 passes true true true false e f h = cc
 passes true true true true false f h = cc
 passes true true true true true false h = cc
+
+-- where the first five are kept, the sixth decides
+pub last_decides : (R : Rows) → rule_3 R ≡ true → rule_4 R ≡ true → rule_5 R ≡ true → rule_6 R ≡ true → rule_7 R ≡ true → (f : Bool) → rule_8 R ≡ f → chain true true true true true f ≡ checking R
+last_decides R three four five six seven f eight = λ i. chain (sym three i) (sym four i) (sym five i) (sym six i) (sym seven i) (sym eight i)
 
 pub lawful_from_checking : (R : Rows) → checking R ≡ Ok tt → lawful R ≡ true
 unfolding lawful
@@ -59,12 +65,12 @@ kept R h =
 
 -- their corners are within reach
 pub reach_from_lawful : (R : Rows) → lawful R ≡ true → in_reach R.corners ≡ true
-reach_from_lawful R h = (and_parts (in_reach R.corners) (every (length R.corners - 1) (corner_rises R.corners)) (kept R h).three).0
+reach_from_lawful R h = (and_parts (in_reach R.corners) (each_next precedes R.corners) (kept R h).three).0
 
 -- their masks have no bit that no corner has
 pub mask_from_lawful : (R : Rows) → lawful R ≡ true → (k : ℕ) → k < length R.flats → mask R.flats k < 2 ^ length R.corners
 mask_from_lawful R h k l =
     let ms = R.flats in
-    let fits = (and_parts (every (length ms) (mask_fits (length R.corners) ms)) (every (length ms - 1) (mask_rises ms)) (kept R h).four).0 in
-    let here = every_at (mask_fits (length R.corners) ms) (length ms) k l fits in
+    let fits = (and_parts (list_all (mask_fits (length R.corners)) ms) (each_next ltb ms) (kept R h).four).0 in
+    let here = all_at (mask_fits (length R.corners)) ms k 0 l fits in
     ltb-true (mask ms k) (2 ^ length R.corners) (and_parts (ltb (mask ms k) (2 ^ length R.corners)) (leb 3 (ones (mask ms k))) here).0

@@ -1,5 +1,6 @@
 pub mod Loops
 mod Bits
+mod Exact
 pub mod Near
 pub mod Lawful
 pub mod Facing

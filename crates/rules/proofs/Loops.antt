@@ -1,79 +1,62 @@
--- Tests over the numbers below a bound: one turn more, and an early end.
-use Rattle.std.proofs.Common.{◌≡◌, ℕ, zero, suc, ◌+◌, ◌<◌, ◌≤◌, Bool, true, false, cond, sym, refl, ap, ◌∙◌, inl, inr, add-one, arith}
-use Rattle.std.proofs.lemmas.Bool.{and_from, and_parts, and_left, and_right, or_from, or_cases, or_left, or_right, cases_eq, cases_Bool, false≢true}
-use Rattle.rules.specs.Tests.{every, some, count}
+-- What the tests over numbers and lists say of each number and each element.
+use Rattle.std.proofs.Common.{◌≡◌, ℕ, zero, suc, ◌+◌, ◌<◌, Bool, true, false, List, [], ◌∷◌, length, get_or, take, sym, refl, ap, ◌∙◌, inl, inr, zero-add, add-one, arith}
+use Rattle.std.specs.List.{range_with_len, list_all, list_any, enumerate_from, IsAllAdjacentAnswer}
+use Rattle.std.proofs.lemmas.List.Folds.{list_all_at, Any-from_list_any}
+use Rattle.std.proofs.lemmas.List.Sums.{AllPass-from_list_all}
+use Rattle.std.proofs.lemmas.List.FromFn.{length-range_with_len, get_or-range_with_len, length-enumerate_from, get_or-enumerate_from}
+use Rattle.std.proofs.lemmas.Bool.{and_from, and_left, and_right, or_cases, false≢true}
+use Rattle.rules.specs.Tests.{every, some, each_next, some_two}
+
+-- ---- numbers below a bound
+-- number k of the numbers below n is k
+number : (n k : ℕ) → k < n → get_or (range_with_len 0 n) k 0 ≡ k
+number n k h = get_or-range_with_len 0 n k 0 h ∙ zero-add k
 
 module _ (p : ℕ → Bool) where
-  pub every_none : every 0 p ≡ true
-  unfolding every
-  every_none = refl
-
-  pub every_more : (k : ℕ) → every k p ≡ true → p k ≡ true → every (k + 1) p ≡ true
-  unfolding every
-  every_more k h e = ap (λ n. every n p) (add-one k) ∙ and_from (every k p) (p k) h e
+  pub every_at : (n k : ℕ) → k < n → every n p ≡ true → p k ≡ true
+  every_at n k h e = ap p (sym (number n k h)) ∙ AllPass-from_list_all p (range_with_len 0 n) e k 0 (omega (arith, length-range_with_len 0 n))
 
   pub every_fails : (n k : ℕ) → k < n → p k ≡ false → every n p ≡ false
-  unfolding every
-  every_fails zero k h e = absurd (omega arith)
-  every_fails (suc n) k h e = elim (cases_eq k n) [
-    | inl q ↦ and_right (every n p) (p n) (ap p (sym q) ∙ e)
-    | inr q ↦ and_left (every n p) (p n) (every_fails n k (omega (arith, q)) e)
-  ]
-
-  pub every_at : (n k : ℕ) → k < n → every n p ≡ true → p k ≡ true
-  unfolding every
-  every_at zero k h e = absurd (omega arith)
-  every_at (suc n) k h e = elim (cases_eq k n) [
-    | inl q ↦ ap p q ∙ (and_parts (every n p) (p n) e).1
-    | inr q ↦ every_at n k (omega (arith, q)) (and_parts (every n p) (p n) e).0
-  ]
-
-  pub some_none : some 0 p ≡ false
-  unfolding some
-  some_none = refl
-
-  pub some_more : (k : ℕ) → some k p ≡ false → p k ≡ false → some (k + 1) p ≡ false
-  unfolding some
-  some_more k h e = ap (λ n. some n p) (add-one k) ∙ or_from (some k p) (p k) h e
-
-  pub some_found : (n k : ℕ) → k < n → p k ≡ true → some n p ≡ true
-  unfolding some
-  some_found zero k h e = absurd (omega arith)
-  some_found (suc n) k h e = elim (cases_eq k n) [
-    | inl q ↦ or_right (some n p) (p n) (ap p (sym q) ∙ e)
-    | inr q ↦ or_left (some n p) (p n) (some_found n k (omega (arith, q)) e)
-  ]
-
-  -- where p never holds
-  pub some_never : (n : ℕ) → ((k : ℕ) → k < n → p k ≡ false) → some n p ≡ false
-  unfolding some
-  some_never zero h = refl
-  some_never (suc n) h = or_from (some n p) (p n) (some_never n (λ k l. h k (omega arith))) (h n (omega arith))
+  every_fails n k h e = list_all_at p (range_with_len 0 n) k 0 (omega (arith, length-range_with_len 0 n)) (ap p (number n k h) ∙ e)
 
   pub some_at : (n : ℕ) → some n p ≡ true → (k : ℕ) × (k < n) × (p k ≡ true)
-  unfolding some
-  some_at zero e = absurd (false≢true e)
-  some_at (suc n) e = elim (or_cases (some n p) (p n) e) [
-    | inl q ↦ let r = some_at n q in (r.0, omega (arith, r.1), r.2)
-    | inr q ↦ (n, omega arith, q)
-  ]
+  some_at n e =
+      let a = Any-from_list_any p (range_with_len 0 n) e in
+      let h : a.0 < n = omega (arith, a.2, length-range_with_len 0 n) in
+      (a.0, h, ap p (sym (get_or-range_with_len 0 n a.0 a.1 h ∙ zero-add a.0) ∙ a.3) ∙ a.4)
 
-  pub count_none : count 0 p ≡ 0
-  unfolding count
-  count_none = refl
+-- ---- elements of a list
+pub all_at : {X : Type 0} (p : X → Bool) (xs : List X) (k : ℕ) (d : X) → k < length xs → list_all p xs ≡ true → p (get_or xs k d) ≡ true
+all_at p xs k d h e = AllPass-from_list_all p xs e k d h
 
-  pub count_yes : (k : ℕ) → p k ≡ true → count (k + 1) p ≡ count k p + 1
-  unfolding count
-  count_yes k e = ap (λ n. count n p) (add-one k) ∙ ap (λ (b : Bool). count k p + cond b 1 0) e
+pub any_at : {X : Type 0} (p : X → Bool) (xs : List X) → list_any p xs ≡ true → (k : ℕ) × (k < length xs) × ((d : X) → p (get_or xs k d) ≡ true)
+any_at p [] e = absurd (false≢true e)
+any_at p (x ∷ xs) e = elim (or_cases (p x) (list_any p xs) e) [
+  | inl q ↦ (0, omega arith, λ d. q)
+  | inr q ↦ let r = any_at p xs q in (suc r.0, omega (arith, r.1), r.2)
+]
 
-  pub count_no : (k : ℕ) → p k ≡ false → count (k + 1) p ≡ count k p
-  unfolding count
-  count_no k e = ap (λ n. count n p) (add-one k) ∙ ap (λ (b : Bool). count k p + cond b 1 0) e ∙ omega arith
+-- of two elements that pass, the later one is at some place
+pub later_at : {X : Type 0} (r : X → X → Bool) (xs : List X) (d : X) → some_two r xs ≡ true → (k : ℕ) × (x : X) × (k < length xs) × (r x (get_or xs k d) ≡ true)
+later_at {X} r xs d e =
+    let a = any_at (λ (p : ℕ × X). list_any (λ x. r x p.1) (take p.0 xs)) (enumerate_from 0 xs) e in
+    let h : a.0 < length xs = omega (arith, a.1, length-enumerate_from {X = X} 0 xs) in
+    let found = ap (λ (p : ℕ × X). list_any (λ x. r x p.1) (take p.0 xs)) (sym (get_or-enumerate_from 0 xs a.0 (0, d) h)) ∙ a.2 (0, d) in
+    let b = any_at (λ x. r x (get_or xs a.0 d)) (take (0 + a.0) xs) found in
+    (a.0, get_or (take (0 + a.0) xs) b.0 d, h, b.2 d)
 
-  pub count_most : (n : ℕ) → count n p ≤ n
-  unfolding count
-  count_most zero = omega arith
-  count_most (suc n) = elim (cases_Bool (p n)) [
-    | inl e ↦ omega (arith, count_most n, ap (λ (b : Bool). count n p + cond b 1 0) e)
-    | inr e ↦ omega (arith, count_most n, ap (λ (b : Bool). count n p + cond b 1 0) e)
-  ]
+-- ---- each element and the next: what the library says of them by number is the test over the list
+next_all : {X : Type 0} (r : X → X → Bool) (x : X) (ys : List X) → ((k : ℕ) (d : X) → k < length ys → true ≡ r (get_or (x ∷ ys) k d) (get_or ys k d)) → true ≡ each_next r (x ∷ ys)
+next_all r x [] h = refl
+next_all r x (y ∷ ys) h = sym (and_from (r x y) (each_next r (y ∷ ys)) (sym (h 0 x (omega arith))) (sym (next_all r y ys (λ k d l. h (suc k) d (omega arith)))))
+
+next_fails : {X : Type 0} (r : X → X → Bool) (x : X) (ys : List X) (k : ℕ) → k < length ys → ((d : X) → false ≡ r (get_or (x ∷ ys) k d) (get_or ys k d)) → false ≡ each_next r (x ∷ ys)
+next_fails r x [] k l h = absurd (omega arith)
+next_fails r x (y ∷ ys) zero l h = sym (and_left (r x y) (each_next r (y ∷ ys)) (sym (h x)))
+next_fails r x (y ∷ ys) (suc k) l h = sym (and_right (r x y) (each_next r (y ∷ ys)) (sym (next_fails r y ys k (omega arith) h)))
+
+pub each_next-by_number : {X : Type 0} (r : X → X → Bool) (xs : List X) (b : Bool) → IsAllAdjacentAnswer (λ x y a. a ≡ r x y) xs b → b ≡ each_next r xs
+each_next-by_number r [] true h = refl
+each_next-by_number r [] false h = absurd (omega (arith, h.1))
+each_next-by_number r (x ∷ ys) true h = next_all r x ys (λ k d l. h k d (omega arith) ∙ ap (λ n. r (get_or (x ∷ ys) k d) (get_or (x ∷ ys) n d)) (add-one k))
+each_next-by_number r (x ∷ ys) false h = next_fails r x ys h.0 (omega (arith, h.1)) (λ d. h.2 d ∙ ap (λ n. r (get_or (x ∷ ys) h.0 d) (get_or (x ∷ ys) n d)) (add-one h.0))

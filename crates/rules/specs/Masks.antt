@@ -1,18 +1,18 @@
 -- Masks: bit k of a flat's mask says that corner k lies in it.
-use Rattle.std.specs.Prelude.{ℕ, zero, suc, ◌+◌, ◌-◌, ◌/◌, ◌%◌, ◌^◌, Bool, cond, ◌&&◌, ◌==◌, bit_and, count_ones, nat_lt}
+use Rattle.std.specs.Prelude.{ℕ, ◌-◌, ◌/◌, ◌%◌, ◌^◌, Bool, ◌&&◌, ◌==◌, bit_and, count_ones, nat_lt, max, Option, find, unwrap_or}
+use Rattle.std.specs.List.{range_with_len}
 use Rattle.rows.specs.declared.ridge.RidgeRow.{RidgeRow}
 
 unfoldable pub lies : ℕ → ℕ → Bool
 lies k m = m / 2 ^ k % 2 == 1
 
--- the lowest corner of m among the n numbers from a on, or a + n where there is none
-unfoldable pub lowest : ℕ → ℕ → ℕ → ℕ
-lowest zero a m = a
-lowest (suc n) a m = cond (lies a m) a (lowest n (a + 1) m)
+-- the lowest corner of m that is not below a
+unfoldable pub lowest : ℕ → ℕ → Option ℕ
+lowest a m = find (λ k. lies k m) (range_with_len a (32 - a))
 
--- the lowest corner of m that is not below a; 32 where there is none
+-- that corner, or the first number that is no corner's and not below a
 abbrev pub next : ℕ → ℕ → ℕ
-next a m = lowest (32 - a) a m
+next a m = unwrap_or (lowest a m) (max a 32)
 
 -- both corners of the ridge lie in the flat
 abbrev pub holds : ℕ → RidgeRow → Bool

@@ -1,10 +1,11 @@
 -- The rules 3 to 8 of a lawful solid, over its rows. Rules 1 and 2 are of a capture's bytes.
-use Rattle.std.specs.Prelude.{ℕ, ◌+◌, ◌-◌, ◌^◌, Bool, cond, not, ◌&&◌, ◌||◌, List, length, get_or, Some, None, Ok, Err, Option, Result, ◌==◌, count_ones, int_lt, nat_le, nat_lt, slice_index, slice_index_or}
+use Rattle.std.specs.Prelude.{ℕ, ◌+◌, ◌^◌, Bool, cond, not, ◌&&◌, ◌||◌, List, length, get_or, Some, None, Ok, Err, Option, Result, ◌==◌, count_by, count_ones, int_lt, nat_le, nat_lt, slice_index, slice_index_or}
+use Rattle.std.specs.List.{list_all, list_any}
 use Rattle.vector.specs.declared.Vector.{Vector}
 use Rattle.vector.specs.Vectors.{◌·◌, ◌⨯◌, ◌-ᵛ◌, negᵛ, 𝟎, eq_z, is_zero, precedes, within}
 use Rattle.rows.specs.declared.ridge.RidgeRow.{RidgeRow}
 use Rattle.rows.specs.Captures.{Rows}
-use Rattle.rules.specs.Tests.{every, some, count}
+use Rattle.rules.specs.Tests.{every, some, each_next, each_two, some_two}
 use Rattle.rules.specs.Masks.{lies, next, share_two, meet_in}
 
 -- row number k of each table
@@ -18,27 +19,18 @@ abbrev pub ridge : List RidgeRow → ℕ → RidgeRow
 ridge es k = get_or es k record { low = 0; high = 0 }
 
 -- ---- 3: coordinates are within reach, and corner rows rise strictly
-abbrev pub reaches : List Vector → ℕ → Bool
-reaches cs k = within 10000 (corner cs k)
-
 abbrev pub in_reach : List Vector → Bool
-in_reach cs = every (length cs) (reaches cs)
-
-abbrev pub corner_rises : List Vector → ℕ → Bool
-corner_rises cs k = precedes (corner cs k) (corner cs (k + 1))
+in_reach cs = list_all (within 10000) cs
 
 abbrev pub rule_3 : Rows → Bool
-rule_3 R = in_reach R.corners && every (length R.corners - 1) (corner_rises R.corners)
+rule_3 R = in_reach R.corners && each_next precedes R.corners
 
 -- ---- 4: masks use only bits below the number of corners, have at least three ones, and rise strictly
-abbrev pub mask_fits : ℕ → List ℕ → ℕ → Bool
-mask_fits c ms k = nat_lt (mask ms k) (2 ^ c) && nat_le 3 (count_ones (mask ms k))
-
-abbrev pub mask_rises : List ℕ → ℕ → Bool
-mask_rises ms k = nat_lt (mask ms k) (mask ms (k + 1))
+abbrev pub mask_fits : ℕ → ℕ → Bool
+mask_fits c m = nat_lt m (2 ^ c) && nat_le 3 (count_ones m)
 
 abbrev pub rule_4 : Rows → Bool
-rule_4 R = every (length R.flats) (mask_fits (length R.corners) R.flats) && every (length R.flats - 1) (mask_rises R.flats)
+rule_4 R = list_all (mask_fits (length R.corners)) R.flats && each_next nat_lt R.flats
 
 -- ---- 5: for the three lowest corners p, q, s of a flat, (q − p) × (s − p) is not zero; it or its opposite is the flat's
 -- outward direction (outer normal of the facet): its product is equal at all the flat's corners and lower at every other
@@ -64,11 +56,8 @@ is_flat cs m =
     && (is_outward cs m (normal cs m) || is_outward cs m (negᵛ (normal cs m)))
     && some (length cs) (is_left_out m)
 
-abbrev pub flat_lies : List Vector → List ℕ → ℕ → Bool
-flat_lies cs ms k = is_flat cs (mask ms k)
-
 abbrev pub rule_5 : Rows → Bool
-rule_5 R = every (length R.flats) (flat_lies R.corners R.flats)
+rule_5 R = list_all (is_flat R.corners) R.flats
 
 -- the outward direction of a flat, and of flat number k where the corners are within reach
 abbrev pub outward : List Vector → ℕ → Vector
@@ -85,8 +74,8 @@ is_below cs n p k = int_lt (n · corner cs k) (n · p)
 abbrev pub is_above : List Vector → Vector → Vector → ℕ → Bool
 is_above cs n p k = int_lt (n · p) (n · corner cs k)
 
-abbrev pub has_three : List ℕ → ℕ → ℕ → ℕ → ℕ → Bool
-has_three ms i j l k = lies i (mask ms k) && lies j (mask ms k) && lies l (mask ms k)
+abbrev pub has_three : ℕ → ℕ → ℕ → ℕ → Bool
+has_three i j l m = lies i m && lies j m && lies l m
 
 abbrev pub across : List Vector → ℕ → ℕ → ℕ → Vector
 across cs i j l = (corner cs j -ᵛ corner cs i) ⨯ (corner cs l -ᵛ corner cs i)
@@ -95,7 +84,7 @@ abbrev pub triple_listed : List Vector → List ℕ → ℕ → ℕ → ℕ → 
 triple_listed cs ms l j i =
     is_zero (across cs i j l)
     || (some (length cs) (is_below cs (across cs i j l) (corner cs i)) && some (length cs) (is_above cs (across cs i j l) (corner cs i)))
-    || some (length ms) (has_three ms i j l)
+    || list_any (has_three i j l) ms
 
 abbrev pub pair_listed : List Vector → List ℕ → ℕ → ℕ → Bool
 pair_listed cs ms l j = every j (triple_listed cs ms l j)
@@ -107,11 +96,8 @@ abbrev pub rule_6 : Rows → Bool
 rule_6 R = every (length R.corners) (corner_listed R.corners R.flats)
 
 -- ---- 7: each corner lies in at least three flats
-abbrev pub lies_in : List ℕ → ℕ → ℕ → Bool
-lies_in ms k g = lies k (mask ms g)
-
 abbrev pub is_tied : List ℕ → ℕ → Bool
-is_tied ms k = nat_le 3 (count (length ms) (lies_in ms k))
+is_tied ms k = nat_le 3 (count_by (lies k) ms)
 
 abbrev pub rule_7 : Rows → Bool
 rule_7 R = every (length R.corners) (is_tied R.flats)
@@ -121,32 +107,14 @@ rule_7 R = every (length R.corners) (is_tied R.flats)
 abbrev pub ridge_before : RidgeRow → RidgeRow → Bool
 ridge_before d e = nat_lt d.low e.low || (d.low == e.low && nat_lt d.high e.high)
 
-abbrev pub ridge_rises : List RidgeRow → ℕ → Bool
-ridge_rises es k = ridge_before (ridge es k) (ridge es (k + 1))
-
-abbrev pub meet_at : List RidgeRow → ℕ → ℕ → ℕ → Bool
-meet_at es g h k = meet_in (ridge es k) g h
-
-abbrev pub meeting_listed : List ℕ → List RidgeRow → ℕ → ℕ → Bool
-meeting_listed ms es h g = not (share_two (mask ms g) (mask ms h)) || some (length es) (meet_at es (mask ms g) (mask ms h))
-
-abbrev pub meetings_listed : List ℕ → List RidgeRow → ℕ → Bool
-meetings_listed ms es h = every h (meeting_listed ms es h)
-
-abbrev pub meets_before : List ℕ → RidgeRow → ℕ → ℕ → Bool
-meets_before ms e h g = meet_in e (mask ms g) (mask ms h)
-
-abbrev pub meets_some : List ℕ → RidgeRow → ℕ → Bool
-meets_some ms e h = some h (meets_before ms e h)
-
-abbrev pub ridge_true : List ℕ → List RidgeRow → ℕ → Bool
-ridge_true ms es k = some (length ms) (meets_some ms (ridge es k))
+abbrev pub meeting_listed : List RidgeRow → ℕ → ℕ → Bool
+meeting_listed es g h = not (share_two g h) || list_any (λ e. meet_in e g h) es
 
 abbrev pub rule_8 : Rows → Bool
 rule_8 R =
-    every (length R.ridges - 1) (ridge_rises R.ridges)
-    && every (length R.flats) (meetings_listed R.flats R.ridges)
-    && every (length R.ridges) (ridge_true R.flats R.ridges)
+    each_next ridge_before R.ridges
+    && each_two (meeting_listed R.ridges) R.flats
+    && list_all (λ e. some_two (meet_in e) R.flats) R.ridges
 
 -- the vector of a ridge: its higher corner minus its lower
 abbrev pub ridge_vector : List Vector → RidgeRow → Vector

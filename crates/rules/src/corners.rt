@@ -1,56 +1,68 @@
 // Rule 3: corner rows are within reach and rise strictly.
-ghost use Rattle.std.specs.Prelude.{◌≡◌, ◌-◌, ◌<◌, length};
-ghost use Rattle.rules.specs.Tests.{every};
-ghost use Rattle.rules.specs.Rules.{reaches, corner_rises};
-ghost use Rattle.rules.specs.Rules.{corner as corner_of};
+ghost use Rattle.std.specs.Prelude.{◌≡◌, ◌&&◌, true, length, IfSome, is_some};
+ghost use Rattle.vector.specs.Vectors.{precedes};
+ghost use Rattle.rules.specs.Tests.{each_next};
+ghost use Rattle.rules.specs.Rules.{in_reach, corner as corner_of};
 
+use crate::directions::Corner;
 use vector::Vector;
 
 // How far from the origin a coordinate may lie, in steps.
-pub(crate) const REACH: u32 = 10_000;
+const REACH: u32 = 10_000;
 
-// Corner number k; the origin where there is none.
-pub(crate) fn corner(corners: &[Vector], k: usize) -> Vector
-    ensures { result ≡ corner_of corners.now k }
-{
-    if k < corners.len() {
-        corners[k]
-    } else {
-        Vector::ZERO
-    }
+// Corner rows that are all within reach.
+#[derive(Clone, Copy)]
+pub(crate) struct Corners<'a> {
+    pub(crate) rows: &'a [Vector],
+    ghost reached: { in_reach rows.now ≡ true },
 }
 
-fn is_reached(corners: &[Vector], k: usize) -> bool
-    ensures { result ≡ reaches corners.now k }
+fn are_reached(rows: &[Vector]) -> bool
+    ensures { result ≡ in_reach rows.now }
 {
-    corner(corners, k).is_within(REACH)
+    rows.iter().all(|c| c.is_within(REACH))
 }
 
-fn corner_rises(corners: &[Vector], k: usize) -> bool
-    requires { k < length corners.now }
-    ensures { result ≡ corner_rises corners.now k }
+fn rise(rows: &[Vector]) -> bool
+    ensures { result ≡ each_next precedes rows.now }
 {
-    corner(corners, k).precedes(corner(corners, k + 1))
+    rows.is_sorted_by(|a, b| a.precedes(*b))
 }
 
-pub(crate) fn are_reached(corners: &[Vector]) -> bool
-    ensures { result ≡ every (length corners.now) (reaches corners.now) }
-{
-    for k in 0..corners.len() {
-        if !is_reached(corners, k) {
-            return false;
+impl<'a> Corners<'a> {
+    // The rows, if all of them are within reach.
+    pub(crate) fn reached(rows: &'a [Vector]) -> Option<Corners<'a>>
+        ensures known { is_some result ≡ in_reach rows.now }
+        ensures same { IfSome result (λ c. c.rows.now ≡ rows.now) }
+    {
+        if are_reached(rows) {
+            Some(Corners { rows })
+        } else {
+            None
         }
     }
-    true
-}
 
-pub(crate) fn corners_rise(corners: &[Vector]) -> bool
-    ensures { result ≡ every (length corners.now - 1) (corner_rises corners.now) }
-{
-    for k in 0..corners.len().saturating_sub(1) {
-        if !corner_rises(corners, k) {
-            return false;
+    pub(crate) fn len(self) -> usize
+        ensures { result ≡ length self.entry.rows.now }
+    {
+        self.rows.len()
+    }
+
+    // Corner number k; the origin where there is none.
+    pub(crate) fn corner(self, k: usize) -> Corner
+        ensures { result.at ≡ corner_of self.entry.rows.now k }
+    {
+        Corner {
+            at: self.rows.get(k).copied().unwrap_or(Vector::ZERO),
         }
     }
-    true
+
+    // The rows, if all of them are within reach and they rise strictly.
+    pub(crate) fn rising(rows: &'a [Vector]) -> Option<Corners<'a>>
+        ensures known { is_some result ≡ (in_reach rows.now && each_next precedes rows.now) }
+        ensures same { IfSome result (λ c. c.rows.now ≡ rows.now) }
+    {
+        let corners = Corners::reached(rows)?;
+        if rise(rows) { Some(corners) } else { None }
+    }
 }

@@ -2,13 +2,13 @@
 #![tactic(auto)]
 
 mod corners;
+mod directions;
 mod flats;
 mod laws;
 mod masks;
 mod order;
 mod planes;
 mod ridges;
-mod sides;
 
 pub use laws::{flats_face_out, ridges_join_corners};
 pub use order::{check, outward};

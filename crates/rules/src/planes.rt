@@ -1,126 +1,64 @@
 // Rule 6: three corners not on one line, whose plane has no corner on one of its sides, lie together in a listed flat.
-ghost use Rattle.std.specs.Prelude.{◌≡◌, ◌<◌, true, length};
-ghost use Rattle.vector.specs.Vectors.{within};
+ghost use Rattle.std.specs.Prelude.{◌≡◌, length};
+ghost use Rattle.std.specs.List.{list_any};
 ghost use Rattle.rules.specs.Tests.{every, some};
-ghost use Rattle.rules.specs.Rules.{in_reach, is_below, is_above, has_three, triple_listed, pair_listed, corner_listed};
+ghost use Rattle.rules.specs.Rules.{is_below, is_above, has_three, triple_listed, pair_listed, corner_listed};
 
-use crate::flats::near;
+use crate::corners::Corners;
+use crate::directions::{Corner, Direction};
 use crate::masks::lies;
-use crate::sides::{across, is_under};
-use vector::Vector;
-
-// Whether corner k lies below the plane through p.
-fn is_below(corners: &[Vector], n: Vector, p: Vector, k: usize) -> bool
-    requires corners { in_reach corners.now ≡ true }
-    requires direction { within 800000000 n ≡ true }
-    requires p { within 10000 p ≡ true }
-    ensures { result ≡ is_below corners.now n p k }
-{
-    is_under(n, near(corners, k), p)
-}
-
-// Whether corner k lies above the plane through p.
-fn is_above(corners: &[Vector], n: Vector, p: Vector, k: usize) -> bool
-    requires corners { in_reach corners.now ≡ true }
-    requires direction { within 800000000 n ≡ true }
-    requires p { within 10000 p ≡ true }
-    ensures { result ≡ is_above corners.now n p k }
-{
-    is_under(n, p, near(corners, k))
-}
-
-fn has_below(corners: &[Vector], n: Vector, p: Vector) -> bool
-    requires corners { in_reach corners.now ≡ true }
-    requires direction { within 800000000 n ≡ true }
-    requires p { within 10000 p ≡ true }
-    ensures { result ≡ some (length corners.now) (is_below corners.now n p) }
-{
-    for k in 0..corners.len() {
-        if is_below(corners, n, p, k) {
-            return true;
-        }
-    }
-    false
-}
-
-fn has_above(corners: &[Vector], n: Vector, p: Vector) -> bool
-    requires corners { in_reach corners.now ≡ true }
-    requires direction { within 800000000 n ≡ true }
-    requires p { within 10000 p ≡ true }
-    ensures { result ≡ some (length corners.now) (is_above corners.now n p) }
-{
-    for k in 0..corners.len() {
-        if is_above(corners, n, p, k) {
-            return true;
-        }
-    }
-    false
-}
-
-// Whether flat k has three corners.
-fn has_three(masks: &[u32], i: usize, j: usize, l: usize, k: usize) -> bool
-    requires { k < length masks.now }
-    ensures { result ≡ has_three masks.now i j l k }
-{
-    let mask = masks[k];
-    lies(i, mask) && lies(j, mask) && lies(l, mask)
-}
 
 // Whether three corners lie together in a flat.
-fn are_together(masks: &[u32], i: usize, j: usize, l: usize) -> bool
-    ensures { result ≡ some (length masks.now) (has_three masks.now i j l) }
+fn are_together(flats: &[u32], i: usize, j: usize, l: usize) -> bool
+    ensures { result ≡ list_any (has_three i j l) flats.now }
 {
-    for k in 0..masks.len() {
-        if has_three(masks, i, j, l, k) {
-            return true;
-        }
-    }
-    false
+    flats
+        .iter()
+        .any(|f| lies(i, *f) && lies(j, *f) && lies(l, *f))
 }
 
-fn triple_listed(corners: &[Vector], masks: &[u32], l: usize, j: usize, i: usize) -> bool
-    requires { in_reach corners.now ≡ true }
-    ensures { result ≡ triple_listed corners.now masks.now l j i }
-{
-    let p = near(corners, i);
-    let n = across(p, near(corners, j), near(corners, l));
-    n.is_zero()
-        || (has_below(corners, n, p) && has_above(corners, n, p))
-        || are_together(masks, i, j, l)
-}
-
-fn pair_listed(corners: &[Vector], masks: &[u32], l: usize, j: usize) -> bool
-    requires { in_reach corners.now ≡ true }
-    ensures { result ≡ pair_listed corners.now masks.now l j }
-{
-    for i in 0..j {
-        if !triple_listed(corners, masks, l, j, i) {
-            return false;
-        }
+impl<'a> Corners<'a> {
+    // Whether a corner lies below the plane through p.
+    fn has_below(self, n: Direction, p: Corner) -> bool
+        ensures { result ≡ some (length self.entry.rows.now) (is_below self.entry.rows.now n.along p.at) }
+    {
+        let level = n.dot(p);
+        (0..self.len()).any(|k| n.dot(self.corner(k)) < level)
     }
-    true
-}
 
-fn corner_listed(corners: &[Vector], masks: &[u32], l: usize) -> bool
-    requires { in_reach corners.now ≡ true }
-    ensures { result ≡ corner_listed corners.now masks.now l }
-{
-    for j in 0..l {
-        if !pair_listed(corners, masks, l, j) {
-            return false;
-        }
+    // Whether a corner lies above it, which is below it in the opposite direction.
+    fn has_above(self, n: Direction, p: Corner) -> bool
+        ensures { result ≡ some (length self.entry.rows.now) (is_above self.entry.rows.now n.along p.at) }
+    {
+        self.has_below(n.opposite(), p)
     }
-    true
-}
 
-pub(crate) fn flats_complete(corners: &[Vector], masks: &[u32]) -> bool
-    requires { in_reach corners.now ≡ true }
-    ensures { result ≡ every (length corners.now) (corner_listed corners.now masks.now) }
-{
-    for l in 0..corners.len() {
-        if !corner_listed(corners, masks, l) {
-            return false;
-        }
+    fn triple_listed(self, flats: &[u32], l: usize, j: usize, i: usize) -> bool
+        ensures { result ≡ triple_listed self.entry.rows.now flats.now l j i }
+    {
+        let p = self.corner(i);
+        let n = p.across(self.corner(j), self.corner(l));
+        n.is_zero()
+            || (self.has_below(n, p) && self.has_above(n, p))
+            || are_together(flats, i, j, l)
     }
-    true
+
+    fn pair_listed(self, flats: &[u32], l: usize, j: usize) -> bool
+        ensures { result ≡ pair_listed self.entry.rows.now flats.now l j }
+    {
+        (0..j).all(|i| self.triple_listed(flats, l, j, i))
+    }
+
+    fn corner_listed(self, flats: &[u32], l: usize) -> bool
+        ensures { result ≡ corner_listed self.entry.rows.now flats.now l }
+    {
+        (0..l).all(|j| self.pair_listed(flats, l, j))
+    }
+
+    // Whether no flat is missing.
+    pub(crate) fn are_enclosed(self, flats: &[u32]) -> bool
+        ensures { result ≡ every (length self.entry.rows.now) (corner_listed self.entry.rows.now flats.now) }
+    {
+        (0..self.len()).all(|l| self.corner_listed(flats, l))
+    }
 }

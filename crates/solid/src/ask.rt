@@ -61,11 +61,6 @@ impl Solid {
     pub fn ridge(&self, k: usize) -> Option<Vector>
         ensures { result ≡ ridge_told (solid_rows self.now) k }
     {
-        let ridges = self.tables.ridges();
-        if k < ridges.len() {
-            Some(self.along(ridges[k]))
-        } else {
-            None
-        }
+        self.tables.ridges().get(k).map(|row| self.along(*row))
     }
 }

@@ -1,13 +1,8 @@
-use Rattle.std.proofs.Common.{sym, ◌∙◌, arith}
-use Rattle.rules.specs.Rules.{ridge_rises}
-use Rattle.rules.proofs.Loops.{every_none, every_more, every_fails}
+use Rattle.std.proofs.Common.{rules}
+use Rattle.std.proofs.lemmas.Fn.{always_returns_same}
+use Rattle.rules.specs.Rules.{ridge_before}
+use Rattle.rules.proofs.Loops.{each_next-by_number}
 use Rattle.rules.proofs.ridges.ridges_rise.Goals as goal
 
-pub loop-k-init : goal.loop-k-init
-loop-k-init c = every_none (ridge_rises c.args.ridges.now)
-
-pub returns-then-not-ridge_rises : goal.returns-then-not-ridge_rises
-returns-then-not-ridge_rises c = sym (every_fails (ridge_rises c.args.ridges.now) _ _ (omega arith) (sym c.ridge_rises.ensures ∙ c.if-not-ridge_rises.true))
-
-pub loop-k-preserved : goal.loop-k-preserved
-loop-k-preserved c = every_more (ridge_rises c.args.ridges.now) _ c.loop-k.invariant (sym c.ridge_rises.ensures ∙ c.if-not-ridge_rises.false)
+pub returns : goal.returns
+returns c = each_next-by_number ridge_before c.args.ridges.now _ (c.is_sorted_by.ensures.cases ridge_before (always_returns_same _ _ _ (λ a r f' k. search rules)))
