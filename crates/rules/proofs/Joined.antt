@@ -6,7 +6,7 @@ use Rattle.rows.specs.Captures.{Rows}
 use Rattle.std.specs.List.{list_all}
 use Rattle.rules.specs.Tests.{each_next, each_two, some_two}
 use Rattle.rules.specs.Masks.{lies, holds, share_two, meet_in}
-use Rattle.rules.specs.Rules.{mask, ridge, ridge_before, meeting_listed, lawful}
+use Rattle.rules.specs.Rules.{mask, ridge, ridge_before, meeting_listed, ridges_fit, lawful}
 use Rattle.rules.specs.Laws.{RidgesJoinCorners}
 use Rattle.rules.proofs.Loops.{all_at, later_at}
 use Rattle.rules.proofs.Bits.{bit_below}
@@ -22,6 +22,7 @@ meeting e g h t =
 
 -- in each ridge of lawful rows two flats meet
 true_from_lawful : (R : Rows) → lawful R ≡ true → (k : ℕ) → k < length R.ridges → some_two (meet_in (ridge R.ridges k)) R.flats ≡ true
+unfolding ridges_fit
 true_from_lawful R h k l =
     let ms = R.flats in
     let es = R.ridges in

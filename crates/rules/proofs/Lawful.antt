@@ -1,5 +1,5 @@
 -- Rows are lawful exactly when no rule refuses them.
-use Rattle.std.proofs.Common.{◌≡◌, ℕ, ◌^◌, ◌<◌, Bool, true, false, cond, not, ◌&&◌, ltb, leb, length, Ok, Err, Result, sym, refl}
+use Rattle.std.proofs.Common.{◌≡◌, ℕ, ◌^◌, ◌<◌, Bool, true, false, cond, not, ◌&&◌, ltb, leb, length, Ok, Err, Result, refl}
 use lib.Count.{ones}
 use Rattle.std.proofs.lemmas.Bool.{and_parts, ltb-true}
 use Rattle.rows.specs.Captures.{Rows}
@@ -31,10 +31,6 @@ passes true true false d e f h = cc
 passes true true true false e f h = cc
 passes true true true true false f h = cc
 passes true true true true true false h = cc
-
--- where the first five are kept, the sixth decides
-pub last_decides : (R : Rows) → rule_3 R ≡ true → rule_4 R ≡ true → rule_5 R ≡ true → rule_6 R ≡ true → rule_7 R ≡ true → (f : Bool) → rule_8 R ≡ f → chain true true true true true f ≡ checking R
-last_decides R three four five six seven f eight = λ i. chain (sym three i) (sym four i) (sym five i) (sym six i) (sym seven i) (sym eight i)
 
 pub lawful_from_checking : (R : Rows) → checking R ≡ Ok tt → lawful R ≡ true
 unfolding lawful

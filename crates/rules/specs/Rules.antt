@@ -29,8 +29,11 @@ rule_3 R = in_reach R.corners && each_next precedes R.corners
 abbrev pub mask_fits : ℕ → ℕ → Bool
 mask_fits c m = nat_lt m (2 ^ c) && nat_le 3 (count_ones m)
 
+abbrev pub masks_fit : ℕ → List ℕ → Bool
+masks_fit c ms = list_all (mask_fits c) ms && each_next nat_lt ms
+
 abbrev pub rule_4 : Rows → Bool
-rule_4 R = list_all (mask_fits (length R.corners)) R.flats && each_next nat_lt R.flats
+rule_4 R = masks_fit (length R.corners) R.flats
 
 -- ---- 5: for the three lowest corners p, q, s of a flat, (q − p) × (s − p) is not zero; it or its opposite is the flat's
 -- outward direction (outer normal of the facet): its product is equal at all the flat's corners and lower at every other
@@ -110,11 +113,11 @@ ridge_before d e = nat_lt d.low e.low || (d.low == e.low && nat_lt d.high e.high
 abbrev pub meeting_listed : List RidgeRow → ℕ → ℕ → Bool
 meeting_listed es g h = not (share_two g h) || list_any (λ e. meet_in e g h) es
 
+unfoldable pub ridges_fit : List ℕ → List RidgeRow → Bool
+ridges_fit ms es = each_next ridge_before es && each_two (meeting_listed es) ms && list_all (λ e. some_two (meet_in e) ms) es
+
 abbrev pub rule_8 : Rows → Bool
-rule_8 R =
-    each_next ridge_before R.ridges
-    && each_two (meeting_listed R.ridges) R.flats
-    && list_all (λ e. some_two (meet_in e) R.flats) R.ridges
+rule_8 R = ridges_fit R.flats R.ridges
 
 -- the vector of a ridge: its higher corner minus its lower
 abbrev pub ridge_vector : List Vector → RidgeRow → Vector

@@ -2,15 +2,11 @@
 ghost use Rattle.rules.specs.Laws.{FlatsFaceOut, RidgesJoinCorners};
 
 // Each flat has just one outward direction.
-pub fn flats_face_out() -> u8
+pub fn flats_face_out()
     ensures { FlatsFaceOut }
-{
-    0
-}
+{}
 
 // Each ridge row names two corners, the lower first.
-pub fn ridges_join_corners() -> u8
+pub fn ridges_join_corners()
     ensures { RidgesJoinCorners }
-{
-    0
-}
+{}

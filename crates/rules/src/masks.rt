@@ -1,9 +1,9 @@
 // Masks: bit k of a flat's mask says that corner k lies in it. Rule 4: they fit the corners and rise strictly.
-ghost use Rattle.std.specs.Prelude.{◌≡◌, ◌≤◌, ◌&&◌, nat_lt};
+ghost use Rattle.std.specs.Prelude.{◌≡◌, ◌≤◌, nat_lt};
 ghost use Rattle.std.specs.List.{list_all};
 ghost use Rattle.rules.specs.Tests.{each_next};
 ghost use Rattle.rules.specs.Masks.{lies as lies_in, lowest as lowest_in, next as next_in, holds as holds_ridge, share_two, meet_in};
-ghost use Rattle.rules.specs.Rules.{mask_fits};
+ghost use Rattle.rules.specs.Rules.{mask_fits, masks_fit};
 
 use rows::RidgeRow;
 
@@ -50,7 +50,7 @@ pub(crate) fn meet_in(ridge: RidgeRow, g: u32, h: u32) -> bool
 }
 
 // Whether each mask has at least three ones, and only below the number of corners.
-fn masks_fit(corners: usize, flats: &[u32]) -> bool
+fn masks_hold(corners: usize, flats: &[u32]) -> bool
     requires { corners ≤ 32 }
     ensures { result ≡ list_all (mask_fits corners) flats.now }
 {
@@ -66,9 +66,9 @@ fn masks_rise(flats: &[u32]) -> bool
 }
 
 // Rule 4.
-pub(crate) fn are_masks(corners: usize, flats: &[u32]) -> bool
+pub(crate) fn masks_fit(corners: usize, flats: &[u32]) -> bool
     requires { corners ≤ 32 }
-    ensures { result ≡ (list_all (mask_fits corners) flats.now && each_next nat_lt flats.now) }
+    ensures { result ≡ masks_fit corners flats.now }
 {
-    masks_fit(corners, flats) && masks_rise(flats)
+    masks_hold(corners, flats) && masks_rise(flats)
 }

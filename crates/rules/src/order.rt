@@ -5,8 +5,8 @@ ghost use Rattle.rows.specs.Meaning.{rows_of};
 ghost use Rattle.rules.specs.Rules.{checking, direction};
 
 use crate::corners::Corners;
-use crate::masks::are_masks;
-use crate::ridges::{are_ridges, corners_tied};
+use crate::masks::masks_fit;
+use crate::ridges::{corners_tied, ridges_fit};
 use refusal::Refusal;
 use rows::Tables;
 use vector::Vector;
@@ -17,7 +17,7 @@ pub fn check(tables: &Tables) -> Result<(), Refusal>
 {
     let flats = tables.flats();
     let corners = Corners::rising(tables.corners()).ok_or(Refusal::CornerRows)?;
-    if !are_masks(corners.len(), flats) {
+    if !masks_fit(corners.len(), flats) {
         return Err(Refusal::Masks);
     }
     if !corners.are_flat(flats) {
@@ -29,7 +29,7 @@ pub fn check(tables: &Tables) -> Result<(), Refusal>
     if !corners_tied(corners.len(), flats) {
         return Err(Refusal::LooseCorner);
     }
-    if !are_ridges(flats, tables.ridges()) {
+    if !ridges_fit(flats, tables.ridges()) {
         return Err(Refusal::RidgeRows);
     }
     Ok(())

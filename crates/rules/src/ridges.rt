@@ -1,9 +1,9 @@
 // Rule 7: each corner lies in at least three flats. Rule 8: the ridges listed are those in which two flats meet.
-ghost use Rattle.std.specs.Prelude.{◌≡◌, ◌&&◌, take};
+ghost use Rattle.std.specs.Prelude.{◌≡◌, take};
 ghost use Rattle.std.specs.List.{list_all, list_any};
 ghost use Rattle.rules.specs.Tests.{every, each_next, each_two, some_two};
 ghost use Rattle.rules.specs.Masks.{meet_in as meet_at};
-ghost use Rattle.rules.specs.Rules.{is_tied, ridge_before, meeting_listed};
+ghost use Rattle.rules.specs.Rules.{is_tied, ridge_before, meeting_listed, ridges_fit};
 
 use crate::masks::{holds, lies, meet_in, share_two};
 use rows::RidgeRow;
@@ -83,8 +83,9 @@ fn ridges_true(flats: &[u32], ridges: &[RidgeRow]) -> bool
 }
 
 // Rule 8.
-pub(crate) fn are_ridges(flats: &[u32], ridges: &[RidgeRow]) -> bool
-    ensures { result ≡ (each_next ridge_before ridges.now && each_two (meeting_listed ridges.now) flats.now && list_all (λ e. some_two (meet_at e) flats.now) ridges.now) }
+#[tactic(auto, unfolding(crate::specs::Rules::ridges_fit))]
+pub(crate) fn ridges_fit(flats: &[u32], ridges: &[RidgeRow]) -> bool
+    ensures { result ≡ ridges_fit flats.now ridges.now }
 {
     ridges_rise(ridges) && ridges_complete(flats, ridges) && ridges_true(flats, ridges)
 }

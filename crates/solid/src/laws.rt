@@ -3,15 +3,11 @@ ghost use Rattle.solid.specs.Examples.{Examples};
 ghost use Rattle.solid.specs.Laws.{Exact};
 
 // A capture is accepted exactly when it keeps every rule, and refused by the first that it breaks.
-pub fn reading_is_exact() -> u8
+pub fn reading_is_exact()
     ensures { Exact }
-{
-    0
-}
+{}
 
 // The worked examples of the tetrahedron T.
-pub fn examples_hold() -> u8
+pub fn examples_hold()
     ensures { Examples }
-{
-    0
-}
+{}
