@@ -20,20 +20,6 @@ use Rattle.sums.specs.Sums.{sum_meaning, sum_sides, counts_of, counts_answer, li
 use Rattle.sums.proofs.Numbering.{row_below, column_below, half, numbered_product, numbered_opposite}
 use Rattle.sums.proofs.Corners.{Told, fit_told}
 
--- ---- the laws
-module _ (A B : List Vector) where
-  list_laws : (a b : Sides) → Laws (corners A) a → Laws (corners B) b → Laws (corners (sums A B)) (sum_sides a b)
-  list_laws unlisted b h k = tt
-  list_laws (listed fs rs) unlisted h k = tt
-  list_laws (listed fs rs) (listed gs ts) h k =
-      cond_both (leb (length (sum_flats fs rs gs ts)) 20000 && leb (length (rs ++ ts)) 1000) (listed (sum_flats fs rs gs ts) (rs ++ ts)) unlisted (Laws (corners (sums A B)))
-      (λ e. sum_keeps_laws A fs rs B gs ts h k) (λ e. tt)
-
-pub sum_laws : (m o : Meaning) → Told m o → (a b : Sides) → Laws m a → Laws o b → Laws (sum_meaning m o) (sum_sides a b)
-sum_laws m o t a b h k =
-    subst (λ (x : Meaning). Laws x (sum_sides a b)) (sym t.is)
-    (list_laws (corners_in m) (corners_in o) a b (subst (λ (x : Meaning). Laws x a) t.first.is h) (subst (λ (x : Meaning). Laws x b) t.second.is k))
-
 -- ---- what the counts of a part tell
 record Counted (a : Sides) (x : Counts) : Type 0 where
   flats : List Vector

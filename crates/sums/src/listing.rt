@@ -1,7 +1,6 @@
 // How many flats and ridges the two parts of a sum list.
 ghost use Rattle.std.specs.Prelude.{◌≡◌};
 ghost use Rattle.refusal.specs.Numbers.{told};
-ghost use Rattle.body.specs.Sides.{Laws};
 ghost use Rattle.sums.specs.Sums.{counts_answer};
 
 use body::Sided;
@@ -21,8 +20,7 @@ pub(crate) struct Listing {
 
 // How many flats and ridges a body lists.
 pub(crate) fn counts_of<B: Sided>(body: &B) -> Result<Counts, Refusal>
-    ensures answer { told result ≡ counts_answer (B.Body.meaning body.now) (B.Sided.sides body.now) }
-    ensures laws { Laws (B.Body.meaning body.now) (B.Sided.sides body.now) }
+    ensures { told result ≡ counts_answer (B.Body.meaning body.now) (B.Sided.sides body.now) }
 {
     let flats = body.flat_count()?;
     let ridges = body.ridge_count()?;

@@ -1,9 +1,8 @@
 // The sum of two bodies: each point of the first plus each point of the second (the Minkowski sum).
 ghost use Rattle.std.specs.Prelude.{◌≡◌, Ok as Told};
 ghost use Rattle.refusal.specs.Numbers.{told};
-ghost use Rattle.body.specs.Sides.{Laws};
 ghost use Rattle.sums.specs.Sums.{sum_meaning, sum_sides, listing_answer, product_answer};
-ghost use Rattle.sums.specs.Sound.{sum_sound, sum_bounded};
+ghost use Rattle.sums.specs.Sound.{sum_sound, sum_bounded, sum_lawful};
 
 use crate::listing::{Listing, counts_of};
 use body::{Body, Extent, MOST_CORNERS, MOST_FLATS, MOST_RIDGES, Sided};
@@ -65,8 +64,7 @@ impl<P: Body, Q: Body> Body for Sum<P, Q> {
 impl<P: Sided, Q: Sided> Sum<P, Q> {
     // What the parts list, if the sum is fit and lists its own.
     fn listing(&self) -> Result<Listing, Refusal>
-        ensures answer { told result ≡ listing_answer (sum_meaning (P.Body.meaning self.now.first) (Q.Body.meaning self.now.second)) (P.Sided.sides self.now.first) (Q.Sided.sides self.now.second) }
-        ensures laws { Laws (sum_meaning (P.Body.meaning self.now.first) (Q.Body.meaning self.now.second)) (sum_sides (P.Sided.sides self.now.first) (Q.Sided.sides self.now.second)) }
+        ensures { told result ≡ listing_answer (sum_meaning (P.Body.meaning self.now.first) (Q.Body.meaning self.now.second)) (P.Sided.sides self.now.first) (Q.Sided.sides self.now.second) }
     {
         self.extent()?;
         let first = counts_of(&self.first)?;
@@ -97,6 +95,8 @@ impl<P: Sided, Q: Sided> Sided for Sum<P, Q> {
     ghost sides = { λ s. sum_sides (P.Sided.sides s.first) (Q.Sided.sides s.second) };
 
     ghost bounded = { λ s. sum_bounded (P.Sided.sides s.first) (Q.Sided.sides s.second) (P.Sided.bounded s.first) (Q.Sided.bounded s.second) };
+
+    ghost lawful = { λ s. sum_lawful (P.Body.meaning s.first) (Q.Body.meaning s.second) (P.Sided.sides s.first) (Q.Sided.sides s.second) (P.Sided.lawful s.first) (Q.Sided.lawful s.second) };
 
     fn flat_count(&self) -> Result<usize, Refusal> {
         let l = self.listing()?;

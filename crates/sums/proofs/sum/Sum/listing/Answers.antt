@@ -1,7 +1,7 @@
 use Rattle.std.proofs.Common.{inl, inr}
 use Rattle.sums.proofs.sum.Sum.listing.Goals.{then-flats-gt-MOST_FLATS-via-then-flats-gt-MOST_FLATS as by-flats, then-flats-gt-MOST_FLATS-via-else-flats-gt-MOST_FLATS+then-first-second-gt-MOST_RIDGES as by-ridges}
 use Rattle.sums.proofs.Corners.{told_by_extent}
-use Rattle.sums.proofs.Flats.{sum_laws, listing_few, listing_many}
+use Rattle.sums.proofs.Flats.{listing_few, listing_many}
 use Rattle.sums.proofs.sum.Sum.listing.Goals as goal
 
 pub returns-then-flats-gt-MOST_FLATS : goal.returns-then-flats-gt-MOST_FLATS
@@ -11,14 +11,11 @@ returns-then-flats-gt-MOST_FLATS g c =
     let a = g.P.Sided.sides c.args.self.now.first in
     let b = g.Q.Sided.sides c.args.self.now.second in
     let t = told_by_extent m o (g.P.Body.sound c.args.self.now.first) (g.Q.Body.sound c.args.self.now.second) c.in_ok-extent.field-0 c.in_ok-extent.ensures in
-    record {
-      answer = listing_many m o t a b c.in_ok-first.first c.in_ok-second.second c.in_ok-first.ensures.answer c.in_ok-second.ensures.answer
+    listing_many m o t a b c.in_ok-first.first c.in_ok-second.second c.in_ok-first.ensures c.in_ok-second.ensures
           (elim c.then-flats-gt-MOST_FLATS.branch [
             | by-flats w ↦ inl w.if-flats-gt-MOST_FLATS.true
             | by-ridges w ↦ inr w.if-first-second-gt-MOST_RIDGES.true
-          ]);
-      laws = sum_laws m o t a b c.in_ok-first.ensures.laws c.in_ok-second.ensures.laws;
-    }
+          ])
 
 pub returns : goal.returns
 returns g c =
@@ -27,7 +24,4 @@ returns g c =
     let a = g.P.Sided.sides c.args.self.now.first in
     let b = g.Q.Sided.sides c.args.self.now.second in
     let t = told_by_extent m o (g.P.Body.sound c.args.self.now.first) (g.Q.Body.sound c.args.self.now.second) c.in_ok-extent.field-0 c.in_ok-extent.ensures in
-    record {
-      answer = listing_few m o t a b c.in_ok-first.first c.in_ok-second.second c.in_ok-first.ensures.answer c.in_ok-second.ensures.answer c.if-flats-gt-MOST_FLATS.false c.if-first-second-gt-MOST_RIDGES.false;
-      laws = sum_laws m o t a b c.in_ok-first.ensures.laws c.in_ok-second.ensures.laws;
-    }
+    listing_few m o t a b c.in_ok-first.first c.in_ok-second.second c.in_ok-first.ensures c.in_ok-second.ensures c.if-flats-gt-MOST_FLATS.false c.if-first-second-gt-MOST_RIDGES.false

@@ -20,7 +20,7 @@ returns-in_err-u g c =
     let b = g.Q.Sided.sides c.args.self.now.second in
     let t = told_by_listing m o (g.P.Body.sound c.args.self.now.first) (g.Q.Body.sound c.args.self.now.second) a b c.args.l c.requires in
     let k = lists_told (sum_meaning m o) a b c.args.l c.requires in
-    no_row m o t a b c.args.l k c.args.t c.if-t-l.false _ c.in_err-u.ensures.answer
+    no_row m o t a b c.args.l k c.args.t c.if-t-l.false _ c.in_err-u.ensures
 
 pub returns-then-t-eq0 : goal.returns-then-t-eq0
 returns-then-t-eq0 g c =
@@ -31,7 +31,7 @@ returns-then-t-eq0 g c =
     let t = told_by_listing m o (g.P.Body.sound c.args.self.now.first) (g.Q.Body.sound c.args.self.now.second) a b c.args.l c.requires in
     let k = lists_told (sum_meaning m o) a b c.args.l c.requires in
     product_even m o t a b c.args.l k c.args.t c.if-t-l.false
-    (g.P.Sided.bounded c.args.self.now.first) (g.Q.Sided.bounded c.args.self.now.second) c.in_ok-u.u c.in_ok-v.v c.cross-w.result c.in_ok-u.ensures.answer c.in_ok-v.ensures.answer c.cross-w.ensures c.if-t-eq0.true
+    (g.P.Sided.bounded c.args.self.now.first) (g.Q.Sided.bounded c.args.self.now.second) c.in_ok-u.u c.in_ok-v.v c.cross-w.result c.in_ok-u.ensures c.in_ok-v.ensures c.cross-w.ensures c.if-t-eq0.true
 
 pub returns-else-t-eq0 : goal.returns-else-t-eq0
 returns-else-t-eq0 g c =
@@ -42,4 +42,4 @@ returns-else-t-eq0 g c =
     let t = told_by_listing m o (g.P.Body.sound c.args.self.now.first) (g.Q.Body.sound c.args.self.now.second) a b c.args.l c.requires in
     let k = lists_told (sum_meaning m o) a b c.args.l c.requires in
     product_odd m o t a b c.args.l k c.args.t c.if-t-l.false
-    (g.P.Sided.bounded c.args.self.now.first) (g.Q.Sided.bounded c.args.self.now.second) c.in_ok-u.u c.in_ok-v.v c.cross-w.result c.in_ok-u.ensures.answer c.in_ok-v.ensures.answer c.cross-w.ensures c.if-t-eq0.false c.opposite.result c.opposite.ensures
+    (g.P.Sided.bounded c.args.self.now.first) (g.Q.Sided.bounded c.args.self.now.second) c.in_ok-u.u c.in_ok-v.v c.cross-w.result c.in_ok-u.ensures c.in_ok-v.ensures c.cross-w.ensures c.if-t-eq0.false c.opposite.result c.opposite.ensures

@@ -9,9 +9,9 @@ returns-then-i-l g c =
     let o = g.Q.Body.meaning c.args.self.now.second in
     let a = g.P.Sided.sides c.args.self.now.first in
     let b = g.Q.Sided.sides c.args.self.now.second in
-    let t = told_by_listing m o (g.P.Body.sound c.args.self.now.first) (g.Q.Body.sound c.args.self.now.second) a b c.in_ok-l.l c.in_ok-l.ensures.answer in
-    let k = lists_told (sum_meaning m o) a b c.in_ok-l.l c.in_ok-l.ensures.answer in
-    record { answer = c.flat.ensures.answer ∙ flat_of_first m o t a b c.in_ok-l.l k c.args.i c.if-i-l.true; laws = c.in_ok-l.ensures.laws }
+    let t = told_by_listing m o (g.P.Body.sound c.args.self.now.first) (g.Q.Body.sound c.args.self.now.second) a b c.in_ok-l.l c.in_ok-l.ensures in
+    let k = lists_told (sum_meaning m o) a b c.in_ok-l.l c.in_ok-l.ensures in
+    c.flat.ensures ∙ flat_of_first m o t a b c.in_ok-l.l k c.args.i c.if-i-l.true
 
 pub returns-then-j-l : goal.returns-then-j-l
 returns-then-j-l g c =
@@ -19,9 +19,9 @@ returns-then-j-l g c =
     let o = g.Q.Body.meaning c.args.self.now.second in
     let a = g.P.Sided.sides c.args.self.now.first in
     let b = g.Q.Sided.sides c.args.self.now.second in
-    let t = told_by_listing m o (g.P.Body.sound c.args.self.now.first) (g.Q.Body.sound c.args.self.now.second) a b c.in_ok-l.l c.in_ok-l.ensures.answer in
-    let k = lists_told (sum_meaning m o) a b c.in_ok-l.l c.in_ok-l.ensures.answer in
-    record { answer = c.flat-then-j-l.ensures.answer ∙ flat_of_second m o t a b c.in_ok-l.l k c.args.i c.if-i-l.false c.if-j-l.true; laws = c.in_ok-l.ensures.laws }
+    let t = told_by_listing m o (g.P.Body.sound c.args.self.now.first) (g.Q.Body.sound c.args.self.now.second) a b c.in_ok-l.l c.in_ok-l.ensures in
+    let k = lists_told (sum_meaning m o) a b c.in_ok-l.l c.in_ok-l.ensures in
+    c.flat-then-j-l.ensures ∙ flat_of_second m o t a b c.in_ok-l.l k c.args.i c.if-i-l.false c.if-j-l.true
 
 pub returns : goal.returns
 returns g c =
@@ -29,6 +29,6 @@ returns g c =
     let o = g.Q.Body.meaning c.args.self.now.second in
     let a = g.P.Sided.sides c.args.self.now.first in
     let b = g.Q.Sided.sides c.args.self.now.second in
-    let t = told_by_listing m o (g.P.Body.sound c.args.self.now.first) (g.Q.Body.sound c.args.self.now.second) a b c.in_ok-l.l c.in_ok-l.ensures.answer in
-    let k = lists_told (sum_meaning m o) a b c.in_ok-l.l c.in_ok-l.ensures.answer in
-    record { answer = c.product.ensures ∙ flat_of_products m o t a b c.in_ok-l.l k c.args.i c.if-i-l.false c.if-j-l.false; laws = c.in_ok-l.ensures.laws }
+    let t = told_by_listing m o (g.P.Body.sound c.args.self.now.first) (g.Q.Body.sound c.args.self.now.second) a b c.in_ok-l.l c.in_ok-l.ensures in
+    let k = lists_told (sum_meaning m o) a b c.in_ok-l.l c.in_ok-l.ensures in
+    c.product.ensures ∙ flat_of_products m o t a b c.in_ok-l.l k c.args.i c.if-i-l.false c.if-j-l.false

@@ -8,7 +8,4 @@ returns g c =
     let o = g.Q.Body.meaning c.args.self.now.second in
     let a = g.P.Sided.sides c.args.self.now.first in
     let b = g.Q.Sided.sides c.args.self.now.second in
-    record {
-      answer = sum_ridge_count m o (told_by_listing m o (g.P.Body.sound c.args.self.now.first) (g.Q.Body.sound c.args.self.now.second) a b c.in_ok-l.l c.in_ok-l.ensures.answer) a b c.in_ok-l.l (lists_told (sum_meaning m o) a b c.in_ok-l.l c.in_ok-l.ensures.answer);
-      laws = c.in_ok-l.ensures.laws;
-    }
+    sum_ridge_count m o (told_by_listing m o (g.P.Body.sound c.args.self.now.first) (g.Q.Body.sound c.args.self.now.second) a b c.in_ok-l.l c.in_ok-l.ensures) a b c.in_ok-l.l (lists_told (sum_meaning m o) a b c.in_ok-l.l c.in_ok-l.ensures)
