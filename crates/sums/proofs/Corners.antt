@@ -157,14 +157,8 @@ module _ (m o : Meaning) (s : Sound m) (u : Sound o) (N k i : ℕ) (h : Ok N ≡
       let e' = ap (λ x. length A * x) (told_count o u k q).1 in
       omega (arith, e, e')
 
-  pub some_corner : 1 ≤ k
-  some_corner = some_columns (length A) k i within_counts
-
   pub row_there : {Z : Type 0} (x : ℕ) → Err x ≡ corner_answer m (i / k) → Z
   row_there x e = no_corner_missing m (length A) (i / k) x (ap count_answer (sym (told_by_count m o s u N h).first.is)) (row_below (length A) k i within_counts) e
-
-  pub column_there : {Z : Type 0} (x : ℕ) → Err x ≡ corner_answer o (i % k) → Z
-  column_there x e = no_corner_missing o k (i % k) x q (column_below (length A) k i within_counts) e
 
   pub sum_corner : (c d v : Vector) → Ok c ≡ corner_answer m (i / k) → Ok d ≡ corner_answer o (i % k) → v ≡ wrappedᵛ (c +ᵛ d) → Ok v ≡ corner_answer (sum_meaning m o) i
   sum_corner c d v a b e =
