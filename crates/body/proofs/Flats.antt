@@ -148,9 +148,6 @@ module _ (m : Meaning) (s : Sides) (n : Vector) (count : ℕ) (h : Ok count ≡ 
     told_here : (f : Vector) → Ok f ≡ flat_answer m s i → f ≡ get_or (flats_in s) i 𝟎
     told_here f e = let t = told_flats m s count h in same_ok (e ∙ (λ x. flat_answer (t.0 x) (t.1 x) i) ∙ numbered_in (flats_in s) i below)
 
-    pub no_flat_missing : {Z : Type 0} (e : ℕ) → Err e ≡ flat_answer m s i → Z
-    no_flat_missing e q = let t = told_flats m s count h in absurd (omega (arith, below, (told_past (flats_in s) i e (q ∙ (λ x. flat_answer (t.0 x) (t.1 x) i))).0))
-
     pub flat_near : Bounded s → (f : Vector) → Ok f ≡ flat_answer m s i → within 800000000 f ≡ true
     flat_near b f e =
         let t = told_flats m s count h in

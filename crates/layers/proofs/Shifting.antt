@@ -59,9 +59,6 @@ fit_told v (corners cs) s h = elim (cases_Bool (within 20000 v)) [
 ]
 
 -- ---- the extent
-pub extent_far : (v : Vector) (m : Meaning) → within 20000 v ≡ false → Err 13 ≡ extent_answer (shift_meaning v m)
-extent_far v m h = ap extent_answer (sym (shift_far v m h))
-
 module _ (v : Vector) (m : Meaning) (s : Sound m) (near : within 20000 v ≡ true) (e : Extent) (h : Ok e ≡ extent_answer m) where
   -- 64-bit sums are exact
   exact : extent (wrappedᵛ (e.least +ᵛ v)) (wrappedᵛ (e.greatest +ᵛ v)) ≡ extent_of (shifted v (corners_in m))
