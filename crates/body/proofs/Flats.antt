@@ -21,7 +21,7 @@ use Rattle.body.specs.Meaning.{Meaning, unfit, corners}
 use Rattle.body.specs.Sides.{Sides, unlisted, listed, Bounded, Laws}
 use Rattle.body.specs.Answers.{flat_count_answer, flat_answer}
 use Rattle.body.specs.Along.{along, first_along, along_answer, Says}
-use Rattle.body.proofs.Numbered.{no_ok, same_ok, numbered_in, told_past, told_all}
+use Rattle.body.proofs.Numbered.{no_ok, same_ok, numbered_in, told_all}
 use Rattle.body.proofs.Told.{corners_in}
 
 -- ---- the test is exact

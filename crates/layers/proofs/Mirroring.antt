@@ -2,7 +2,6 @@
 use Rattle.std.proofs.Common.{◌≡◌, ℕ, ◌^◌, ◌<◌, ◌≤◌, true, ◌&&◌, List, length, ℤ, pos, negsuc, ◌+ℤ◌, neg_ℤ, nat_abs, Ok, Err, sym, refl, ap, ◌∙◌, inl, inr, arith, w64, SFits}
 use Rattle.std.specs.Int.{int_wrap}
 use Rattle.std.proofs.lemmas.Int.{ints, int_wrap_fits}
-use Rattle.std.proofs.lemmas.List.{length-map}
 use Rattle.std.proofs.lemmas.Bool.{and_parts, cond-true, cond-false, cases_Bool, cases_lt}
 use Rattle.vector.specs.declared.Vector.{Vector}
 use Rattle.vector.specs.Vectors.{vector, ◌·◌, negᵛ, inside, within}
@@ -17,7 +16,7 @@ use Rattle.body.specs.declared.extent.Extent.{Extent}
 use Rattle.body.specs.Meaning.{Meaning, unfit, corners, Sound}
 use Rattle.body.specs.Sides.{Sides, unlisted, listed, Bounded}
 use Rattle.body.specs.Extents.{x⁺, y⁺, z⁺, extent, extent_of, extent_reached, farthest}
-use Rattle.body.specs.Answers.{count_answer, corner_answer, extent_answer, farthest_answer, flat_count_answer, flat_answer, ridge_count_answer, ridge_answer}
+use Rattle.body.specs.Answers.{corner_answer, extent_answer, farthest_answer, flat_answer}
 use Rattle.body.proofs.Numbered.{no_ok, mapped, numbered-map, told_all}
 use Rattle.body.proofs.Told.{corners_in, told_extent, told_corner, fits_parts}
 use Rattle.body.proofs.Extents.{extent_near}

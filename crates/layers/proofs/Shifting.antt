@@ -1,5 +1,5 @@
 -- What a shifted body answers, from the answers of the body.
-use Rattle.std.proofs.Common.{◌≡◌, ℕ, ◌≤◌, true, false, cond, List, length, ℤ, ◌+ℤ◌, Ok, Err, Result, sym, refl, ap, ◌∙◌, subst, inl, inr, arith}
+use Rattle.std.proofs.Common.{◌≡◌, ℕ, ◌≤◌, true, false, cond, List, length, ℤ, ◌+ℤ◌, Ok, Err, Result, sym, refl, ap, ◌∙◌, inl, inr, arith}
 use Rattle.std.proofs.lemmas.List.{length-map}
 use Rattle.std.proofs.lemmas.Bool.{and_parts, cond-true, cond-false, cases_Bool}
 use Rattle.vector.specs.declared.Vector.{Vector}
@@ -12,14 +12,12 @@ use Rattle.convex.specs.Sides.{shifted}
 use Rattle.convex.proofs.Extremes.{greatest-shifted, least-shifted}
 use Rattle.body.specs.declared.extent.Extent.{Extent}
 use Rattle.body.specs.Meaning.{Meaning, unfit, corners, fits, body_of, Sound}
-use Rattle.body.specs.Sides.{Sides}
 use Rattle.body.specs.Extents.{x⁺, y⁺, z⁺, extent, extent_of, extent_reached}
-use Rattle.body.specs.Answers.{count_answer, corner_answer, extent_answer, farthest_answer, reached_answer, flat_count_answer, flat_answer, ridge_count_answer, ridge_answer}
-use Rattle.body.proofs.Numbered.{no_ok, mapped, numbered-map}
+use Rattle.body.specs.Answers.{corner_answer, extent_answer, farthest_answer, reached_answer}
+use Rattle.body.proofs.Numbered.{mapped, numbered-map}
 use Rattle.body.proofs.Told.{corners_in, Fit, fit, told_extent, told_corner, body_fit, body_unfit}
 use Rattle.body.proofs.Extents.{along_x, along_y, along_z, extent_near, decided}
 use Rattle.body.proofs.Farthest.{farthest_map}
-use Rattle.body.proofs.Alike.{same_flat_count, same_flat, same_ridge_count, same_ridge}
 use Rattle.layers.specs.Layers.{shift_meaning}
 
 -- ---- the extent of a shifted list

@@ -23,7 +23,7 @@ use Rattle.body.proofs.Told.{corners_in, Fit, fit, told_count, told_corner, told
 use Rattle.body.proofs.Extents.{extent_near, decided}
 use Rattle.body.proofs.Farthest.{is_farthest, farthest_is}
 use Rattle.sums.specs.Sums.{sum_meaning}
-use Rattle.sums.proofs.Numbering.{some_columns, row_below, column_below, row_column, numbered-sums}
+use Rattle.sums.proofs.Numbering.{row_below, column_below, row_column, numbered-sums}
 
 -- ---- lists of corners
 module _ (A B : List Vector) (some_IsFirst : 1 ≤ length A) (some_second : 1 ≤ length B) where

@@ -1,23 +1,21 @@
 -- What the sum of two sided bodies answers on its flats and ridges, from the answers of the parts.
-use Rattle.std.proofs.Common.{◌≡◌, ℕ, ◌+◌, ◌-◌, ◌*◌, ◌/◌, ◌%◌, ◌<◌, ◌≤◌, true, cond, ◌&&◌, leb, ◌⊎◌, List, ◌++◌, length, get_or, Ok, Err, sym, refl, ap, ◌∙◌, subst, inl, inr, arith}
+use Rattle.std.proofs.Common.{◌≡◌, ℕ, ◌+◌, ◌-◌, ◌*◌, ◌/◌, ◌%◌, ◌<◌, ◌≤◌, true, cond, ◌&&◌, leb, List, ◌++◌, length, get_or, Ok, Err, sym, refl, ap, ◌∙◌, subst, inl, inr, arith}
 use Rattle.std.proofs.lemmas.List.{length-append}
-use Rattle.std.proofs.lemmas.Bool.{and_from, and_left, and_right, le-leb, lt-leb, cond_both, cond-true, cond-false, cases_Bool}
+use Rattle.std.proofs.lemmas.Bool.{cond-true, cond-false, cases_Bool}
 use Rattle.vector.specs.declared.Vector.{Vector}
 use Rattle.vector.specs.Vectors.{◌⨯◌, negᵛ, within, 𝟎}
 use Rattle.vector.specs.Wrapped.{wrappedᵛ}
 use Rattle.vector.proofs.Exact.{cross-within, cross_exact, neg_exact}
-use Rattle.convex.specs.Sides.{sums, products, sum_flats}
+use Rattle.convex.specs.Sides.{products, sum_flats}
 use Rattle.convex.proofs.Numbering.{length-products}
-use Rattle.convex.proofs.Sums.{sum_keeps_laws}
 use Rattle.body.specs.Meaning.{Meaning, unfit, corners, Sound}
-use Rattle.body.specs.Sides.{Sides, unlisted, listed, Bounded, Laws}
+use Rattle.body.specs.Sides.{Sides, unlisted, listed, Bounded}
 use Rattle.body.specs.Answers.{numbered, flat_count_answer, flat_answer, ridge_count_answer, ridge_answer}
 use Rattle.body.proofs.Numbered.{no_ok, same_ok, numbered_past, numbered_left, numbered_right, told_entry, told_past, told_all}
-use Rattle.body.proofs.Told.{corners_in}
 use Rattle.sums.specs.declared.listing.Counts.{Counts}
 use Rattle.sums.specs.declared.listing.Listing.{Listing}
 use Rattle.sums.specs.Sums.{sum_meaning, sum_sides, counts_of, counts_answer, listing_answer, product_count, flat_count, ridge_count, is_few, product_answer}
-use Rattle.sums.proofs.Numbering.{row_below, column_below, half, numbered_product, numbered_opposite}
+use Rattle.sums.proofs.Numbering.{row_below, half, numbered_product, numbered_opposite}
 use Rattle.sums.proofs.Corners.{Told, fit_told}
 
 -- ---- what the counts of a part tell
