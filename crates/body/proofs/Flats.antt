@@ -159,8 +159,5 @@ module _ (m : Meaning) (s : Sides) (n : Vector) (count : ℕ) (h : Ok count ≡ 
     pub flat_found : (f : Vector) → Ok f ≡ flat_answer m s i → along n f ≡ true → Ok (Some i) ≡ along_answer m s n
     flat_found f e a = ap Ok (sym (sym inv ∙ step ∙ cond-true (along n (get_or (flats_in s) i 𝟎)) (Some i) (first_along n (i + 1) (drop (i + 1) (flats_in s))) (ap (along n) (sym (told_here f e)) ∙ a))) ∙ sym answered
 
-    pub flat_passed : (f : Vector) → Ok f ≡ flat_answer m s i → along n f ≡ false → Later n s (i + 1)
-    flat_passed f e a = sym (step ∙ cond-false (along n (get_or (flats_in s) i 𝟎)) (Some i) (first_along n (i + 1) (drop (i + 1) (flats_in s))) (ap (along n) (sym (told_here f e)) ∙ a)) ∙ inv
-
   pub all_passed : (i : ℕ) → count ≤ i → Later n s i → Ok None ≡ along_answer m s n
   all_passed i l inv = ap Ok (sym (sym inv ∙ at_drop_all (first_along n i) (flats_in s) i (omega (arith, (told_flats m s count h).2)))) ∙ sym answered

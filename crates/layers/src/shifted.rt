@@ -1,6 +1,5 @@
 // A body with a vector added to each corner (a translate).
-ghost use Rattle.std.specs.Prelude.{◌≡◌, IfOk, IfErr};
-ghost use Rattle.refusal.specs.Numbers.{number_of};
+ghost use Rattle.std.specs.Prelude.{◌≡◌, ◌≢◌, IfOk, IfErr, OnOk, OnErr};
 ghost use Rattle.body.specs.Meaning.{unfit};
 ghost use Rattle.layers.specs.Layers.{shift_meaning};
 ghost use Rattle.layers.specs.Sound.{shift_sound, shift_lawful};
@@ -20,8 +19,9 @@ impl<B: Body> Shifted<B> {
     // The body, where the shifted body is fit.
     fn fit(&self) -> Result<&B, Refusal>
         ensures body { IfOk result (λ b. b.now ≡ self.now.body) }
-        ensures fit { IfOk result (λ b. ¬ (shift_meaning self.now.by (B.Body.meaning self.now.body) ≡ unfit)) }
-        ensures unfit { IfErr result (λ e. (number_of e ≡ 13) × (shift_meaning self.now.by (B.Body.meaning self.now.body) ≡ unfit)) }
+        ensures fit { OnOk result (shift_meaning self.now.by (B.Body.meaning self.now.body) ≢ unfit) }
+        ensures unfit { OnErr result (shift_meaning self.now.by (B.Body.meaning self.now.body) ≡ unfit) }
+        ensures refusal { IfErr result (λ e. e ≡ Refusal.Unfit) }
     {
         self.extent()?;
         Ok(&self.body)

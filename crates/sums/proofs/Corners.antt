@@ -101,12 +101,6 @@ module _ (m o : Meaning) (s : Sound m) (u : Sound o) where
 
 -- ---- counts
 module _ (m o : Meaning) (s : Sound m) (u : Sound o) (n k : ℕ) (h : Ok n ≡ count_answer m) (l : Ok k ≡ count_answer o) where
-  pub product_small : n * k ≤ 1048576
-  product_small =
-      let p = told_count m s n h in
-      let q = told_count o u k l in
-      mul-le n k 1024 1024 (omega (arith, p.1, p.0.few)) (omega (arith, q.1, q.0.few))
-
   counted : length (sums (corners_in m) (corners_in o)) ≡ n * k
   counted = length-sums (corners_in m) (corners_in o) ∙ sym (λ i. (told_count m s n h).1 i * (told_count o u k l).1 i)
 
