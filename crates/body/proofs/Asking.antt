@@ -2,7 +2,7 @@
 use Rattle.std.proofs.Common.{◌≡◌, ℕ, ◌+◌, ◌≤◌, true, false, List, [], ◌∷◌, length, get_or, take, ℤ, Ok, Err, sym, refl, ap, ◌∙◌, subst, arith, w64, to_z, of_z}
 use lib.Signed.{lt_z}
 use Rattle.std.specs.Int.{int_wrap}
-use Rattle.std.proofs.lemmas.List.{take_more, take_all, length-take-le}
+use Rattle.std.proofs.lemmas.List.{take_more, length-take-le}
 use Rattle.std.proofs.lemmas.Bool.{cond-true}
 use Rattle.vector.specs.declared.Vector.{Vector}
 use Rattle.vector.specs.Vectors.{◌·◌, within, 𝟎}
@@ -11,9 +11,9 @@ use Rattle.vector.proofs.Exact.{dot_exact, less_by_bits, not_less_by_bits}
 use Rattle.body.specs.declared.extent.Extent.{Extent}
 use Rattle.body.specs.Meaning.{Meaning, Sound}
 use Rattle.body.specs.Extents.{extent, extent_of, widened, farthest}
-use Rattle.body.specs.Answers.{count_answer, corner_answer, extent_answer, farthest_answer}
+use Rattle.body.specs.Answers.{count_answer, corner_answer, farthest_answer}
 use Rattle.body.proofs.Told.{corners_in, reached_at, told_count, told_corner}
-use Rattle.body.proofs.Farthest.{Best, best_first, best_taken, best_kept, best_all}
+use Rattle.body.proofs.Farthest.{Best, best_taken, best_kept, best_all}
 use Rattle.body.proofs.Extents.{along_x, along_y, along_z, extent_push}
 
 -- the extent of one corner
@@ -40,19 +40,11 @@ module _ (m : Meaning) (s : Sound m) where
       let long : 1 ≤ length (take i cs) = omega (arith, length-take-le i cs (omega (arith, t.1))) in
       w ∙ (λ x. widened (inv x) (t.2 x)) ∙ sym (extent_push (take i cs) (get_or cs i 𝟎) long) ∙ ap extent_of (sym (take_more cs i 𝟎 t.1))
 
-  pub extent_ends : (n : ℕ) → Ok n ≡ count_answer m → (i : ℕ) → n ≤ i → (e : Extent) → e ≡ extent_of (take i (corners_in m)) → Ok e ≡ extent_answer m
-  extent_ends n h i l e inv =
-      let t = told_count m s n h in
-      ap Ok (inv ∙ ap extent_of (take_all i (corners_in m) (omega (arith, t.1)))) ∙ ap extent_answer (sym t.0.is)
-
 -- ---- the farthest corner: the best of the first i, and the corner of its number
 abbrev pub Found : Vector → List Vector → ℕ → ℕ → Vector → Type 0
 Found n cs i k top = Best n cs i k × (top ≡ get_or cs k 𝟎)
 
 module _ (m : Meaning) (s : Sound m) (n : Vector) where
-  pub farthest_begun : (c : Vector) → Ok c ≡ corner_answer m 0 → Found n (corners_in m) 1 0 c
-  farthest_begun c h = (best_first n (corners_in m), (told_corner m s 0 c h).2)
-
   -- within range the products that are compared are exact
   module _ (near : within 800000000 n ≡ true) (i k : ℕ) (c top : Vector) (h : Ok c ≡ corner_answer m i) (inv : Found n (corners_in m) i k top) where
     product_here : int_wrap w64 (n · c) ≡ n · get_or (corners_in m) i 𝟎

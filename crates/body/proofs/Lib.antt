@@ -2,6 +2,5 @@ pub mod Numbered
 pub mod Told
 pub mod Farthest
 pub mod Extents
-pub mod Alike
 pub mod Flats
 mod Asking

@@ -10,8 +10,5 @@ use vector::Vector;
 pub fn entry(list: &[Vector], i: usize) -> Result<Vector, Refusal>
     ensures { told result ≡ numbered list.now i }
 {
-    match list.get(i) {
-        Some(v) => Ok(*v),
-        None => Err(Refusal::OutOfRange),
-    }
+    list.get(i).copied().ok_or(Refusal::OutOfRange)
 }

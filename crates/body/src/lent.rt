@@ -32,6 +32,8 @@ impl<'a, B: Sided> Sided for &'a B {
 
     ghost bounded = { λ s. B.Sided.bounded s.now };
 
+    ghost lawful = { λ s. B.Sided.lawful s.now };
+
     fn flat_count(&self) -> Result<usize, Refusal> {
         (**self).flat_count()
     }

@@ -17,21 +17,20 @@ pub trait Sided: Body {
 
     // How many flats it has.
     fn flat_count(&self) -> Result<usize, Refusal>
-        ensures answer { told result ≡ flat_count_answer (Self.Body.meaning self.now) (sides self.now) }
-        ensures laws { Laws (Self.Body.meaning self.now) (sides self.now) };
+        ensures { told result ≡ flat_count_answer (Self.Body.meaning self.now) (sides self.now) };
 
     // Flat number i (the outer normal of a facet, or another direction).
     fn flat(&self, i: usize) -> Result<Vector, Refusal>
-        ensures answer { told result ≡ flat_answer (Self.Body.meaning self.now) (sides self.now) i }
-        ensures laws { Laws (Self.Body.meaning self.now) (sides self.now) };
+        ensures { told result ≡ flat_answer (Self.Body.meaning self.now) (sides self.now) i };
 
     // How many ridges it has.
     fn ridge_count(&self) -> Result<usize, Refusal>
-        ensures answer { told result ≡ ridge_count_answer (Self.Body.meaning self.now) (sides self.now) }
-        ensures laws { Laws (Self.Body.meaning self.now) (sides self.now) };
+        ensures { told result ≡ ridge_count_answer (Self.Body.meaning self.now) (sides self.now) };
 
     // Ridge number i (the direction of an edge, or another vector).
     fn ridge(&self, i: usize) -> Result<Vector, Refusal>
-        ensures answer { told result ≡ ridge_answer (Self.Body.meaning self.now) (sides self.now) i }
-        ensures laws { Laws (Self.Body.meaning self.now) (sides self.now) };
+        ensures { told result ≡ ridge_answer (Self.Body.meaning self.now) (sides self.now) i };
+
+    // its flats and ridges keep the two laws over its corners
+    ghost lawful: { (s : Self) → Laws (Self.Body.meaning s) (sides s) };
 }

@@ -1,9 +1,10 @@
 -- What a mirrored body answers, from the answers of the body.
-use Rattle.std.proofs.Common.{◌≡◌, ℕ, ◌≤◌, true, List, length, pos, ◌+ℤ◌, Ok, Err, sym, refl, ap, ◌∙◌, arith}
-use Rattle.std.proofs.lemmas.List.{length-map}
-use Rattle.std.proofs.lemmas.Bool.{and_parts, cond-true}
+use Rattle.std.proofs.Common.{◌≡◌, ℕ, ◌^◌, ◌<◌, ◌≤◌, true, ◌&&◌, List, length, ℤ, pos, negsuc, ◌+ℤ◌, neg_ℤ, nat_abs, Ok, Err, sym, refl, ap, ◌∙◌, inl, inr, arith, w64, SFits}
+use Rattle.std.specs.Int.{int_wrap}
+use Rattle.std.proofs.lemmas.Int.{ints, int_wrap_fits}
+use Rattle.std.proofs.lemmas.Bool.{and_parts, cond-true, cond-false, cases_Bool, cases_lt}
 use Rattle.vector.specs.declared.Vector.{Vector}
-use Rattle.vector.specs.Vectors.{vector, ◌·◌, negᵛ, within}
+use Rattle.vector.specs.Vectors.{vector, ◌·◌, negᵛ, inside, within}
 use Rattle.vector.specs.Wrapped.{wrappedᵛ}
 use Rattle.vector.proofs.Order.{lin}
 use Rattle.vector.proofs.Exact.{neg_exact, neg_corner_exact}
@@ -11,12 +12,11 @@ use Rattle.vector.proofs.Bounds.{within-neg}
 use Rattle.vector.proofs.Identities.{dot-neg, neg-dot}
 use Rattle.convex.specs.Sides.{mirrored}
 use Rattle.convex.proofs.Extremes.{greatest-mirrored, least-mirrored}
-use Rattle.convex.proofs.Mirrors.{mirror_keeps_laws}
 use Rattle.body.specs.declared.extent.Extent.{Extent}
 use Rattle.body.specs.Meaning.{Meaning, unfit, corners, Sound}
-use Rattle.body.specs.Sides.{Sides, unlisted, listed, Bounded, Laws}
+use Rattle.body.specs.Sides.{Sides, unlisted, listed, Bounded}
 use Rattle.body.specs.Extents.{x⁺, y⁺, z⁺, extent, extent_of, extent_reached, farthest}
-use Rattle.body.specs.Answers.{count_answer, corner_answer, extent_answer, farthest_answer, flat_count_answer, flat_answer, ridge_count_answer, ridge_answer}
+use Rattle.body.specs.Answers.{corner_answer, extent_answer, farthest_answer, flat_answer}
 use Rattle.body.proofs.Numbered.{no_ok, mapped, numbered-map, told_all}
 use Rattle.body.proofs.Told.{corners_in, told_extent, told_corner, fits_parts}
 use Rattle.body.proofs.Extents.{extent_near}
@@ -24,19 +24,12 @@ use Rattle.body.proofs.Farthest.{farthest_map}
 use Rattle.layers.specs.Layers.{mirror_meaning, mirror_sides}
 
 -- ---- corners
-pub mirror_count : (m : Meaning) → count_answer m ≡ count_answer (mirror_meaning m)
-mirror_count unfit = refl
-mirror_count (corners cs) = ap Ok (sym (length-map cs negᵛ))
-
-pub mirror_corner : (m : Meaning) (i : ℕ) → mapped negᵛ (corner_answer m i) ≡ corner_answer (mirror_meaning m) i
+mirror_corner : (m : Meaning) (i : ℕ) → mapped negᵛ (corner_answer m i) ≡ corner_answer (mirror_meaning m) i
 mirror_corner unfit i = refl
 mirror_corner (corners cs) i = numbered-map negᵛ cs i
 
 pub corner_mirrored : (m : Meaning) → Sound m → (i : ℕ) (c d : Vector) → Ok c ≡ corner_answer m i → d ≡ wrappedᵛ (negᵛ c) → Ok d ≡ corner_answer (mirror_meaning m) i
 corner_mirrored m s i c d h e = ap Ok (e ∙ neg_corner_exact c (told_corner m s i c h).3) ∙ ap (mapped negᵛ) h ∙ mirror_corner m i
-
-pub corner_missing : (m : Meaning) (i e : ℕ) → Err e ≡ corner_answer m i → Err e ≡ corner_answer (mirror_meaning m) i
-corner_missing m i e h = ap (mapped negᵛ) h ∙ mirror_corner m i
 
 -- ---- the extent
 pub extent_mirrored : (cs : List Vector) → 1 ≤ length cs → extent (negᵛ (extent_of cs).greatest) (negᵛ (extent_of cs).least) ≡ extent_of (mirrored cs)
@@ -53,24 +46,40 @@ mirror_extent m s e f h q =
     ∙ ap (λ (x : Meaning). extent_answer (mirror_meaning x)) (sym t.0.is)
 
 -- ---- the farthest corner is that along the opposite direction
-pub mirror_farthest : (m : Meaning) → Sound m → (n o : Vector) → within 800000000 n ≡ true → o ≡ wrappedᵛ (negᵛ n) → farthest_answer m o ≡ farthest_answer (mirror_meaning m) n
-mirror_farthest unfit s n o h e = refl
-mirror_farthest (corners cs) s n o h e =
-    ap (farthest_answer (corners cs)) (e ∙ neg_exact n h)
-    ∙ cond-true (within 800000000 (negᵛ n)) (Ok (farthest (negᵛ n) cs)) (Err 14) (within-neg 800000000 n h)
-    ∙ ap Ok (sym (farthest_map n (negᵛ n) (pos 0) negᵛ turned cs (fits_parts cs s).0))
-    ∙ sym (cond-true (within 800000000 n) (Ok (farthest n (mirrored cs))) (Err 14) h)
+-- a 64-bit number and its opposite are in the same ranges: the least number, its own opposite, is beyond them
+inside-opposite : (m : ℕ) (a : ℤ) → m < 2 ^ 63 → SFits w64 a → inside m (int_wrap w64 (neg_ℤ a)) ≡ inside m a
+unfolding int_wrap
+inside-opposite m a small f = elim (cases_lt (nat_abs a) (2 ^ 63)) [
+  | inl l ↦
+      let g : SFits w64 (neg_ℤ a) = grind (arith, ints) in
+      let e : inside m (neg_ℤ a) ≡ inside m a = grind (arith, ints) in
+      ap (inside m) (int_wrap_fits w64 (neg_ℤ a) g) ∙ e
+  | inr l ↦
+      let e : a ≡ negsuc 9223372036854775807 = grind (arith, ints) in
+      ap (λ b. inside m (int_wrap w64 (neg_ℤ b))) e ∙ sym (ap (inside m) e)
+]
+
+within-opposite : (m : ℕ) (n : Vector) → m < 2 ^ 63 → SFits w64 n.x → SFits w64 n.y → SFits w64 n.z → within m (wrappedᵛ (negᵛ n)) ≡ within m n
+within-opposite m n small x y z i = inside-opposite m n.x small x i && inside-opposite m n.y small y i && inside-opposite m n.z small z i
+
+pub mirror_farthest : (m : Meaning) → Sound m → (n o : Vector) → SFits w64 n.x → SFits w64 n.y → SFits w64 n.z → o ≡ wrappedᵛ (negᵛ n) → farthest_answer m o ≡ farthest_answer (mirror_meaning m) n
+mirror_farthest unfit s n o x y z e = refl
+mirror_farthest (corners cs) s n o x y z e = elim (cases_Bool (within 800000000 n)) [
+  | inl h ↦
+      ap (farthest_answer (corners cs)) (e ∙ neg_exact n h)
+      ∙ cond-true (within 800000000 (negᵛ n)) (Ok (farthest (negᵛ n) cs)) (Err 14) (within-neg 800000000 n h)
+      ∙ ap Ok (sym (farthest_map n (negᵛ n) (pos 0) negᵛ turned cs (fits_parts cs s).0))
+      ∙ sym (cond-true (within 800000000 n) (Ok (farthest n (mirrored cs))) (Err 14) h)
+  | inr h ↦
+      cond-false (within 800000000 o) (Ok (farthest o cs)) (Err 14) (ap (within 800000000) e ∙ within-opposite 800000000 n (omega arith) x y z ∙ h)
+      ∙ sym (cond-false (within 800000000 n) (Ok (farthest n (mirrored cs))) (Err 14) h)
+]
   where
     turned : (c : Vector) → n · negᵛ c ≡ negᵛ n · c +ℤ pos 0
     turned c = omega (arith, lin, dot-neg n c, neg-dot n c)
 
--- ---- flats are negated, and ridges stay
-pub mirror_flat_count : (m : Meaning) (s : Sides) → flat_count_answer m s ≡ flat_count_answer (mirror_meaning m) (mirror_sides s)
-mirror_flat_count unfit s = refl
-mirror_flat_count (corners cs) unlisted = refl
-mirror_flat_count (corners cs) (listed fs rs) = ap Ok (sym (length-map fs negᵛ))
-
-pub mirror_flat : (m : Meaning) (s : Sides) (i : ℕ) → mapped negᵛ (flat_answer m s i) ≡ flat_answer (mirror_meaning m) (mirror_sides s) i
+-- ---- flats are negated
+mirror_flat : (m : Meaning) (s : Sides) (i : ℕ) → mapped negᵛ (flat_answer m s i) ≡ flat_answer (mirror_meaning m) (mirror_sides s) i
 mirror_flat unfit s i = refl
 mirror_flat (corners cs) unlisted i = refl
 mirror_flat (corners cs) (listed fs rs) i = numbered-map negᵛ fs i
@@ -82,21 +91,3 @@ flat_mirrored m s b i f g h e = ap Ok (e ∙ neg_exact f (flat_within m s b i f 
     flat_within unfit s b i f h = no_ok f 13 h
     flat_within (corners cs) unlisted b i f h = no_ok f 16 h
     flat_within (corners cs) (listed fs rs) b i f h = told_all (λ f. within 800000000 f ≡ true) fs b.flats_within i f h
-
-pub flat_missing : (m : Meaning) (s : Sides) (i e : ℕ) → Err e ≡ flat_answer m s i → Err e ≡ flat_answer (mirror_meaning m) (mirror_sides s) i
-flat_missing m s i e h = ap (mapped negᵛ) h ∙ mirror_flat m s i
-
-pub mirror_ridge_count : (m : Meaning) (s : Sides) → ridge_count_answer m s ≡ ridge_count_answer (mirror_meaning m) (mirror_sides s)
-mirror_ridge_count unfit s = refl
-mirror_ridge_count (corners cs) unlisted = refl
-mirror_ridge_count (corners cs) (listed fs rs) = refl
-
-pub mirror_ridge : (m : Meaning) (s : Sides) (i : ℕ) → ridge_answer m s i ≡ ridge_answer (mirror_meaning m) (mirror_sides s) i
-mirror_ridge unfit s i = refl
-mirror_ridge (corners cs) unlisted i = refl
-mirror_ridge (corners cs) (listed fs rs) i = refl
-
-pub mirror_laws : (m : Meaning) (s : Sides) → Laws m s → Laws (mirror_meaning m) (mirror_sides s)
-mirror_laws unfit s h = tt
-mirror_laws (corners cs) unlisted h = tt
-mirror_laws (corners cs) (listed fs rs) h = mirror_keeps_laws cs fs rs h

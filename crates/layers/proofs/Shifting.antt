@@ -1,5 +1,5 @@
 -- What a shifted body answers, from the answers of the body.
-use Rattle.std.proofs.Common.{◌≡◌, ℕ, ◌≤◌, true, false, cond, List, length, ℤ, ◌+ℤ◌, Ok, Err, Result, sym, refl, ap, ◌∙◌, subst, inl, inr, arith}
+use Rattle.std.proofs.Common.{◌≡◌, ℕ, ◌≤◌, true, false, cond, List, length, ℤ, ◌+ℤ◌, Ok, Err, Result, sym, refl, ap, ◌∙◌, inl, inr, arith}
 use Rattle.std.proofs.lemmas.List.{length-map}
 use Rattle.std.proofs.lemmas.Bool.{and_parts, cond-true, cond-false, cases_Bool}
 use Rattle.vector.specs.declared.Vector.{Vector}
@@ -10,17 +10,14 @@ use Rattle.vector.proofs.Identities.{dot-plus}
 use Rattle.convex.specs.Products.{greatest, least}
 use Rattle.convex.specs.Sides.{shifted}
 use Rattle.convex.proofs.Extremes.{greatest-shifted, least-shifted}
-use Rattle.convex.proofs.Shifts.{shift_keeps_laws}
 use Rattle.body.specs.declared.extent.Extent.{Extent}
 use Rattle.body.specs.Meaning.{Meaning, unfit, corners, fits, body_of, Sound}
-use Rattle.body.specs.Sides.{Sides, unlisted, listed, Laws}
 use Rattle.body.specs.Extents.{x⁺, y⁺, z⁺, extent, extent_of, extent_reached}
-use Rattle.body.specs.Answers.{count_answer, corner_answer, extent_answer, farthest_answer, reached_answer, flat_count_answer, flat_answer, ridge_count_answer, ridge_answer}
-use Rattle.body.proofs.Numbered.{no_ok, mapped, numbered-map}
+use Rattle.body.specs.Answers.{corner_answer, extent_answer, farthest_answer, reached_answer}
+use Rattle.body.proofs.Numbered.{mapped, numbered-map}
 use Rattle.body.proofs.Told.{corners_in, Fit, fit, told_extent, told_corner, body_fit, body_unfit}
 use Rattle.body.proofs.Extents.{along_x, along_y, along_z, extent_near, decided}
 use Rattle.body.proofs.Farthest.{farthest_map}
-use Rattle.body.proofs.Alike.{same_flat_count, same_flat, same_ridge_count, same_ridge}
 use Rattle.layers.specs.Layers.{shift_meaning}
 
 -- ---- the extent of a shifted list
@@ -59,13 +56,7 @@ fit_told v (corners cs) s h = elim (cases_Bool (within 20000 v)) [
   ]
 ]
 
-pub shift_told : (v : Vector) (m : Meaning) → Sound m → (r : Extent) → Ok r ≡ extent_answer (shift_meaning v m) → Told v m
-shift_told v m s r h = fit_told v m s (λ e. no_ok r 13 (h ∙ ap extent_answer e))
-
 -- ---- the extent
-pub extent_far : (v : Vector) (m : Meaning) → within 20000 v ≡ false → Err 13 ≡ extent_answer (shift_meaning v m)
-extent_far v m h = ap extent_answer (sym (shift_far v m h))
-
 module _ (v : Vector) (m : Meaning) (s : Sound m) (near : within 20000 v ≡ true) (e : Extent) (h : Ok e ≡ extent_answer m) where
   -- 64-bit sums are exact
   exact : extent (wrappedᵛ (e.least +ᵛ v)) (wrappedᵛ (e.greatest +ᵛ v)) ≡ extent_of (shifted v (corners_in m))
@@ -86,38 +77,14 @@ module _ (v : Vector) (m : Meaning) (s : Sound m) (near : within 20000 v ≡ tru
 
 -- ---- the other questions
 module _ (v : Vector) (m : Meaning) (t : Told v m) where
-  pub shift_count : count_answer m ≡ count_answer (shift_meaning v m)
-  shift_count = ap count_answer t.part.is ∙ ap Ok (sym (length-map (corners_in m) (λ c. c +ᵛ v))) ∙ ap count_answer (sym t.is)
-
   shift_corner : (i : ℕ) → mapped (λ c. c +ᵛ v) (corner_answer m i) ≡ corner_answer (shift_meaning v m) i
   shift_corner i = ap (λ (x : Meaning). mapped (λ c. c +ᵛ v) (corner_answer x i)) t.part.is ∙ numbered-map (λ c. c +ᵛ v) (corners_in m) i ∙ ap (λ (x : Meaning). corner_answer x i) (sym t.is)
 
   pub corner_shifted : Sound m → (i : ℕ) (c d : Vector) → Ok c ≡ corner_answer m i → d ≡ wrappedᵛ (c +ᵛ v) → Ok d ≡ corner_answer (shift_meaning v m) i
   corner_shifted s i c d h e = ap Ok (e ∙ plus_exact c v (told_corner m s i c h).3 t.near) ∙ ap (mapped (λ c. c +ᵛ v)) h ∙ shift_corner i
 
-  pub corner_missing : (i e : ℕ) → Err e ≡ corner_answer m i → Err e ≡ corner_answer (shift_meaning v m) i
-  corner_missing i e h = ap (mapped (λ c. c +ᵛ v)) h ∙ shift_corner i
-
   pub shift_farthest : (n : Vector) → farthest_answer m n ≡ farthest_answer (shift_meaning v m) n
   shift_farthest n =
       ap (λ (x : Meaning). farthest_answer x n) t.part.is
       ∙ ap (λ k. cond (within 800000000 n) (Ok k) (Err 14)) (sym (farthest_map n n (n · v) (λ c. c +ᵛ v) (λ c. dot-plus n c v) (corners_in m) t.part.some))
       ∙ ap (λ (x : Meaning). farthest_answer x n) (sym t.is)
-
-  -- flats and ridges stay, and keep the laws
-  module _ (s : Sides) where
-    pub shift_flat_count : flat_count_answer m s ≡ flat_count_answer (shift_meaning v m) s
-    shift_flat_count = ap (λ (x : Meaning). flat_count_answer x s) t.part.is ∙ same_flat_count (corners_in m) (shifted v (corners_in m)) s ∙ ap (λ (x : Meaning). flat_count_answer x s) (sym t.is)
-
-    pub shift_flat : (i : ℕ) → flat_answer m s i ≡ flat_answer (shift_meaning v m) s i
-    shift_flat i = ap (λ (x : Meaning). flat_answer x s i) t.part.is ∙ same_flat (corners_in m) (shifted v (corners_in m)) s i ∙ ap (λ (x : Meaning). flat_answer x s i) (sym t.is)
-
-    pub shift_ridge_count : ridge_count_answer m s ≡ ridge_count_answer (shift_meaning v m) s
-    shift_ridge_count = ap (λ (x : Meaning). ridge_count_answer x s) t.part.is ∙ same_ridge_count (corners_in m) (shifted v (corners_in m)) s ∙ ap (λ (x : Meaning). ridge_count_answer x s) (sym t.is)
-
-    pub shift_ridge : (i : ℕ) → ridge_answer m s i ≡ ridge_answer (shift_meaning v m) s i
-    shift_ridge i = ap (λ (x : Meaning). ridge_answer x s i) t.part.is ∙ same_ridge (corners_in m) (shifted v (corners_in m)) s i ∙ ap (λ (x : Meaning). ridge_answer x s i) (sym t.is)
-
-pub shift_laws : (v : Vector) (m : Meaning) (t : Told v m) (s : Sides) → Laws m s → Laws (shift_meaning v m) s
-shift_laws v m t unlisted h = subst (λ (x : Meaning). Laws x unlisted) (sym t.is) tt
-shift_laws v m t (listed fs rs) h = subst (λ (x : Meaning). Laws x (listed fs rs)) (sym t.is) (shift_keeps_laws v (corners_in m) fs rs (subst (λ (x : Meaning). Laws x (listed fs rs)) t.part.is h))

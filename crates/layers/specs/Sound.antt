@@ -1,4 +1,4 @@
--- The layers over a body are bodies: their corners fit, and their flats and ridges are few and within range.
+-- The layers over a body are bodies: their corners fit, and their flats and ridges are few, within range and lawful.
 use Rattle.std.specs.Prelude.{◌≡◌, ℕ, ◌≤◌, true, List, [], ◌∷◌, refl}
 use Rattle.std.proofs.Common.{sym, subst}
 use Rattle.std.specs.List.{AllByRecursion}
@@ -8,8 +8,10 @@ use Rattle.vector.specs.declared.Vector.{Vector}
 use Rattle.vector.specs.Vectors.{negᵛ, within}
 use Rattle.vector.proofs.Bounds.{within-neg}
 use Rattle.convex.specs.Sides.{shifted, mirrored}
-use Rattle.body.specs.Meaning.{Meaning, unfit, corners, reached, body_of, Sound}
-use Rattle.body.specs.Sides.{Sides, unlisted, listed, Bounded}
+use Rattle.convex.proofs.Mirrors.{mirror_keeps_laws}
+use Rattle.convex.proofs.Shifts.{shift_keeps_laws}
+use Rattle.body.specs.Meaning.{Meaning, unfit, corners, reached, fits, body_of, Sound}
+use Rattle.body.specs.Sides.{Sides, unlisted, listed, Bounded, Laws}
 use Rattle.body.specs.Sound.{body_of_sound}
 use Rattle.body.proofs.Told.{fits_parts, fits_from}
 use Rattle.layers.specs.Layers.{shift_meaning, mirror_meaning, mirror_sides}
@@ -43,3 +45,19 @@ mirror_bounded (listed fs rs) b = record {
   flats_within = all_mirrored fs b.flats_within;
   ridges_within = b.ridges_within;
 }
+
+pub shift_lawful : (v : Vector) (m : Meaning) (s : Sides) → Laws m s → Laws (shift_meaning v m) s
+shift_lawful v unfit s h = tt
+shift_lawful v (corners cs) s h =
+    cond_both (within 20000 v) (body_of (shifted v cs)) unfit (λ m. Laws m s)
+    (λ e. cond_both (fits (shifted v cs)) (corners (shifted v cs)) unfit (λ m. Laws m s) (λ e. kept s h) (λ e. tt))
+    (λ e. tt)
+  where
+    kept : (s : Sides) → Laws (corners cs) s → Laws (corners (shifted v cs)) s
+    kept unlisted h = tt
+    kept (listed fs rs) h = shift_keeps_laws v cs fs rs h
+
+pub mirror_lawful : (m : Meaning) (s : Sides) → Laws m s → Laws (mirror_meaning m) (mirror_sides s)
+mirror_lawful unfit s h = tt
+mirror_lawful (corners cs) unlisted h = tt
+mirror_lawful (corners cs) (listed fs rs) h = mirror_keeps_laws cs fs rs h

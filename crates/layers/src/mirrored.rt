@@ -1,8 +1,8 @@
 // A body with each corner negated (its reflection in the origin).
 ghost use Rattle.layers.specs.Layers.{mirror_meaning, mirror_sides};
-ghost use Rattle.layers.specs.Sound.{mirror_sound, mirror_bounded};
+ghost use Rattle.layers.specs.Sound.{mirror_sound, mirror_bounded, mirror_lawful};
 
-use body::{Body, DIRECTION, Extent, Sided};
+use body::{Body, Extent, Sided};
 use refusal::Refusal;
 use vector::Vector;
 
@@ -22,21 +22,15 @@ impl<B: Body> Body for Mirrored<B> {
     }
 
     fn corner(&self, i: usize) -> Result<Vector, Refusal> {
-        let c = self.body.corner(i)?;
-        Ok(c.opposite())
+        Ok(self.body.corner(i)?.opposite())
     }
 
     fn extent(&self) -> Result<Extent, Refusal> {
-        let extent = self.body.extent()?;
-        Ok(extent.mirrored())
+        Ok(self.body.extent()?.mirrored())
     }
 
     // The product of n and a negated corner is that of the opposite of n and the corner.
     fn farthest(&self, n: Vector) -> Result<usize, Refusal> {
-        self.count()?;
-        if !n.is_within(DIRECTION) {
-            return Err(Refusal::OutOfRange);
-        }
         self.body.farthest(n.opposite())
     }
 }
@@ -46,13 +40,14 @@ impl<B: Sided> Sided for Mirrored<B> {
 
     ghost bounded = { λ s. mirror_bounded (B.Sided.sides s.body) (B.Sided.bounded s.body) };
 
+    ghost lawful = { λ s. mirror_lawful (B.Body.meaning s.body) (B.Sided.sides s.body) (B.Sided.lawful s.body) };
+
     fn flat_count(&self) -> Result<usize, Refusal> {
         self.body.flat_count()
     }
 
     fn flat(&self, i: usize) -> Result<Vector, Refusal> {
-        let f = self.body.flat(i)?;
-        Ok(f.opposite())
+        Ok(self.body.flat(i)?.opposite())
     }
 
     fn ridge_count(&self) -> Result<usize, Refusal> {

@@ -1,6 +1,8 @@
 // A body with a vector added to each corner (a translate).
+ghost use Rattle.std.specs.Prelude.{◌≡◌, ◌≢◌, IfOk, IfErr, OnOk, OnErr};
+ghost use Rattle.body.specs.Meaning.{unfit};
 ghost use Rattle.layers.specs.Layers.{shift_meaning};
-ghost use Rattle.layers.specs.Sound.{shift_sound};
+ghost use Rattle.layers.specs.Sound.{shift_sound, shift_lawful};
 
 use body::{Body, Extent, SHIFT, Sided};
 use refusal::Refusal;
@@ -13,20 +15,30 @@ pub struct Shifted<B> {
     pub by: Vector,
 }
 
+impl<B: Body> Shifted<B> {
+    // The body, where the shifted body is fit.
+    fn fit(&self) -> Result<&B, Refusal>
+        ensures body { IfOk result (λ b. b.now ≡ self.now.body) }
+        ensures fit { OnOk result (shift_meaning self.now.by (B.Body.meaning self.now.body) ≢ unfit) }
+        ensures unfit { OnErr result (shift_meaning self.now.by (B.Body.meaning self.now.body) ≡ unfit) }
+        ensures refusal { IfErr result (λ e. e ≡ Refusal.Unfit) }
+    {
+        self.extent()?;
+        Ok(&self.body)
+    }
+}
+
 impl<B: Body> Body for Shifted<B> {
     ghost meaning = { λ s. shift_meaning s.by (B.Body.meaning s.body) };
 
     ghost sound = { λ s. shift_sound s.by (B.Body.meaning s.body) };
 
     fn count(&self) -> Result<usize, Refusal> {
-        self.extent()?;
-        self.body.count()
+        self.fit()?.count()
     }
 
     fn corner(&self, i: usize) -> Result<Vector, Refusal> {
-        self.extent()?;
-        let c = self.body.corner(i)?;
-        Ok(c.plus(self.by))
+        Ok(self.fit()?.corner(i)?.plus(self.by))
     }
 
     fn extent(&self) -> Result<Extent, Refusal> {
@@ -39,8 +51,7 @@ impl<B: Body> Body for Shifted<B> {
 
     // Every product changes by the same number, so the farthest corner is that of the body.
     fn farthest(&self, n: Vector) -> Result<usize, Refusal> {
-        self.extent()?;
-        self.body.farthest(n)
+        self.fit()?.farthest(n)
     }
 }
 
@@ -49,23 +60,21 @@ impl<B: Sided> Sided for Shifted<B> {
 
     ghost bounded = { λ s. B.Sided.bounded s.body };
 
+    ghost lawful = { λ s. shift_lawful s.by (B.Body.meaning s.body) (B.Sided.sides s.body) (B.Sided.lawful s.body) };
+
     fn flat_count(&self) -> Result<usize, Refusal> {
-        self.extent()?;
-        self.body.flat_count()
+        self.fit()?.flat_count()
     }
 
     fn flat(&self, i: usize) -> Result<Vector, Refusal> {
-        self.extent()?;
-        self.body.flat(i)
+        self.fit()?.flat(i)
     }
 
     fn ridge_count(&self) -> Result<usize, Refusal> {
-        self.extent()?;
-        self.body.ridge_count()
+        self.fit()?.ridge_count()
     }
 
     fn ridge(&self, i: usize) -> Result<Vector, Refusal> {
-        self.extent()?;
-        self.body.ridge(i)
+        self.fit()?.ridge(i)
     }
 }

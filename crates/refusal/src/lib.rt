@@ -4,22 +4,24 @@
 ghost use Rattle.std.specs.Prelude.{◌≡◌, Some};
 ghost use Rattle.refusal.specs.Numbers.{number_of, words_of};
 
+use std::error::Error;
 use std::fmt;
 
-#[derive(Clone, Copy, PartialEq, Eq, Debug)]
+// Each cause, with its number in the table of refusals.
+#[derive(Clone, Copy, PartialEq, Eq, PartialOrd, Ord, Hash, Debug)]
 pub enum Refusal {
-    Length,
-    Layout,
-    CornerRows,
-    Masks,
-    Flats,
-    MissingFlat,
-    LooseCorner,
-    RidgeRows,
-    NoRoom,
-    Unfit,
-    OutOfRange,
-    Unlisted,
+    Length = 1,
+    Layout = 2,
+    CornerRows = 3,
+    Masks = 4,
+    Flats = 5,
+    MissingFlat = 6,
+    LooseCorner = 7,
+    RidgeRows = 8,
+    NoRoom = 9,
+    Unfit = 13,
+    OutOfRange = 14,
+    Unlisted = 16,
 }
 
 impl Refusal {
@@ -27,20 +29,7 @@ impl Refusal {
     pub fn number(self) -> u8
         ensures { result ≡ number_of self }
     {
-        match self {
-            Refusal::Length => 1,
-            Refusal::Layout => 2,
-            Refusal::CornerRows => 3,
-            Refusal::Masks => 4,
-            Refusal::Flats => 5,
-            Refusal::MissingFlat => 6,
-            Refusal::LooseCorner => 7,
-            Refusal::RidgeRows => 8,
-            Refusal::NoRoom => 9,
-            Refusal::Unfit => 13,
-            Refusal::OutOfRange => 14,
-            Refusal::Unlisted => 16,
-        }
+        self as u8
     }
 
     // The cause in a few words.
@@ -65,11 +54,13 @@ impl Refusal {
     }
 }
 
+// By hand, since a text that thiserror derives has no `output` for clauses to name.
 impl fmt::Display for Refusal {
     ghost output = { λ e. Some (words_of e) };
 
     fn fmt<W: fmt::Write>(&self, f: &mut fmt::Formatter<W>) -> fmt::Result {
-        let words = self.words();
-        write!(f, "{words}")
+        f.write_str(self.words())
     }
 }
+
+impl Error for Refusal {}

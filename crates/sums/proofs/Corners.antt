@@ -23,7 +23,7 @@ use Rattle.body.proofs.Told.{corners_in, Fit, fit, told_count, told_corner, told
 use Rattle.body.proofs.Extents.{extent_near, decided}
 use Rattle.body.proofs.Farthest.{is_farthest, farthest_is}
 use Rattle.sums.specs.Sums.{sum_meaning}
-use Rattle.sums.proofs.Numbering.{some_columns, row_below, column_below, row_column, numbered-sums}
+use Rattle.sums.proofs.Numbering.{row_below, column_below, row_column, numbered-sums}
 
 -- ---- lists of corners
 module _ (A B : List Vector) (some_IsFirst : 1 ≤ length A) (some_second : 1 ≤ length B) where
@@ -101,12 +101,6 @@ module _ (m o : Meaning) (s : Sound m) (u : Sound o) where
 
 -- ---- counts
 module _ (m o : Meaning) (s : Sound m) (u : Sound o) (n k : ℕ) (h : Ok n ≡ count_answer m) (l : Ok k ≡ count_answer o) where
-  pub product_small : n * k ≤ 1048576
-  product_small =
-      let p = told_count m s n h in
-      let q = told_count o u k l in
-      mul-le n k 1024 1024 (omega (arith, p.1, p.0.few)) (omega (arith, q.1, q.0.few))
-
   counted : length (sums (corners_in m) (corners_in o)) ≡ n * k
   counted = length-sums (corners_in m) (corners_in o) ∙ sym (λ i. (told_count m s n h).1 i * (told_count o u k l).1 i)
 
@@ -157,14 +151,8 @@ module _ (m o : Meaning) (s : Sound m) (u : Sound o) (N k i : ℕ) (h : Ok N ≡
       let e' = ap (λ x. length A * x) (told_count o u k q).1 in
       omega (arith, e, e')
 
-  pub some_corner : 1 ≤ k
-  some_corner = some_columns (length A) k i within_counts
-
   pub row_there : {Z : Type 0} (x : ℕ) → Err x ≡ corner_answer m (i / k) → Z
   row_there x e = no_corner_missing m (length A) (i / k) x (ap count_answer (sym (told_by_count m o s u N h).first.is)) (row_below (length A) k i within_counts) e
-
-  pub column_there : {Z : Type 0} (x : ℕ) → Err x ≡ corner_answer o (i % k) → Z
-  column_there x e = no_corner_missing o k (i % k) x q (column_below (length A) k i within_counts) e
 
   pub sum_corner : (c d v : Vector) → Ok c ≡ corner_answer m (i / k) → Ok d ≡ corner_answer o (i % k) → v ≡ wrappedᵛ (c +ᵛ d) → Ok v ≡ corner_answer (sum_meaning m o) i
   sum_corner c d v a b e =

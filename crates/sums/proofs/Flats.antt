@@ -1,38 +1,22 @@
 -- What the sum of two sided bodies answers on its flats and ridges, from the answers of the parts.
-use Rattle.std.proofs.Common.{◌≡◌, ℕ, ◌+◌, ◌-◌, ◌*◌, ◌/◌, ◌%◌, ◌<◌, ◌≤◌, true, cond, ◌&&◌, leb, ◌⊎◌, List, ◌++◌, length, get_or, Ok, Err, sym, refl, ap, ◌∙◌, subst, inl, inr, arith}
+use Rattle.std.proofs.Common.{◌≡◌, ℕ, ◌+◌, ◌-◌, ◌*◌, ◌/◌, ◌%◌, ◌<◌, ◌≤◌, true, cond, ◌&&◌, leb, List, ◌++◌, length, get_or, Ok, Err, sym, refl, ap, ◌∙◌, subst, inl, inr, arith}
 use Rattle.std.proofs.lemmas.List.{length-append}
-use Rattle.std.proofs.lemmas.Bool.{and_from, and_left, and_right, le-leb, lt-leb, cond_both, cond-true, cond-false, cases_Bool}
+use Rattle.std.proofs.lemmas.Bool.{cond-true, cond-false, cases_Bool}
 use Rattle.vector.specs.declared.Vector.{Vector}
 use Rattle.vector.specs.Vectors.{◌⨯◌, negᵛ, within, 𝟎}
 use Rattle.vector.specs.Wrapped.{wrappedᵛ}
 use Rattle.vector.proofs.Exact.{cross-within, cross_exact, neg_exact}
-use Rattle.convex.specs.Sides.{sums, products, sum_flats}
+use Rattle.convex.specs.Sides.{products, sum_flats}
 use Rattle.convex.proofs.Numbering.{length-products}
-use Rattle.convex.proofs.Sums.{sum_keeps_laws}
 use Rattle.body.specs.Meaning.{Meaning, unfit, corners, Sound}
-use Rattle.body.specs.Sides.{Sides, unlisted, listed, Bounded, Laws}
+use Rattle.body.specs.Sides.{Sides, unlisted, listed, Bounded}
 use Rattle.body.specs.Answers.{numbered, flat_count_answer, flat_answer, ridge_count_answer, ridge_answer}
 use Rattle.body.proofs.Numbered.{no_ok, same_ok, numbered_past, numbered_left, numbered_right, told_entry, told_past, told_all}
-use Rattle.body.proofs.Told.{corners_in}
 use Rattle.sums.specs.declared.listing.Counts.{Counts}
 use Rattle.sums.specs.declared.listing.Listing.{Listing}
-use Rattle.sums.specs.Sums.{sum_meaning, sum_sides, counts_of, counts_answer, listing_answer, product_answer}
-use Rattle.sums.proofs.Numbering.{row_below, column_below, half, numbered_product, numbered_opposite}
+use Rattle.sums.specs.Sums.{sum_meaning, sum_sides, counts_of, counts_answer, listing_answer, product_count, flat_count, ridge_count, is_few, product_answer}
+use Rattle.sums.proofs.Numbering.{row_below, half, numbered_product, numbered_opposite}
 use Rattle.sums.proofs.Corners.{Told, fit_told}
-
--- ---- the laws
-module _ (A B : List Vector) where
-  list_laws : (a b : Sides) → Laws (corners A) a → Laws (corners B) b → Laws (corners (sums A B)) (sum_sides a b)
-  list_laws unlisted b h k = tt
-  list_laws (listed fs rs) unlisted h k = tt
-  list_laws (listed fs rs) (listed gs ts) h k =
-      cond_both (leb (length (sum_flats fs rs gs ts)) 20000 && leb (length (rs ++ ts)) 1000) (listed (sum_flats fs rs gs ts) (rs ++ ts)) unlisted (Laws (corners (sums A B)))
-      (λ e. sum_keeps_laws A fs rs B gs ts h k) (λ e. tt)
-
-pub sum_laws : (m o : Meaning) → Told m o → (a b : Sides) → Laws m a → Laws o b → Laws (sum_meaning m o) (sum_sides a b)
-sum_laws m o t a b h k =
-    subst (λ (x : Meaning). Laws x (sum_sides a b)) (sym t.is)
-    (list_laws (corners_in m) (corners_in o) a b (subst (λ (x : Meaning). Laws x a) t.first.is h) (subst (λ (x : Meaning). Laws x b) t.second.is k))
 
 -- ---- what the counts of a part tell
 record Counted (a : Sides) (x : Counts) : Type 0 where
@@ -52,9 +36,9 @@ flat_total fs rs gs ts = omega (arith, length-append (fs ++ gs) (products rs ts)
 abbrev listing : Counts → Counts → Listing
 listing x y = record { first = x; second = y }
 
+-- the listing of a fit sum, from the counts of its parts
 module _ (m o : Meaning) (t : Told m o) (a b : Sides) (x y : Counts) (h : Ok x ≡ counts_answer m a) (k : Ok y ≡ counts_answer o b) where
-  -- the counts of the sum, as the code adds them up
-  listing_is : listing_answer (sum_meaning m o) a b ≡ cond (leb (x.flats + y.flats + 2 * (x.ridges * y.ridges)) 20000 && leb (x.ridges + y.ridges) 1000) (Ok (listing x y)) (Err 16)
+  pub listing_is : listing_answer (sum_meaning m o) a b ≡ cond (is_few (listing x y)) (Ok (listing x y)) (Err 16)
   listing_is =
       let p = counted m a x h in
       let q = counted o b y k in
@@ -64,17 +48,7 @@ module _ (m o : Meaning) (t : Told m o) (a b : Sides) (x y : Counts) (h : Ok x �
       let ts = q.ridges in
       (λ i. listing_answer (t.is i) (p.is i) (q.is i))
       ∙ (λ i. cond (leb (flat_total fs rs gs ts i) 20000 && leb (length-append rs ts i) 1000) (Ok (listing (counts_of fs rs) (counts_of gs ts))) (Err 16))
-      ∙ sym (λ i. cond (leb ((p.counts i).flats + (q.counts i).flats + 2 * ((p.counts i).ridges * (q.counts i).ridges)) 20000 && leb ((p.counts i).ridges + (q.counts i).ridges) 1000) (Ok (listing (p.counts i) (q.counts i))) (Err 16))
-
-  pub listing_few : x.flats + y.flats + 2 * (x.ridges * y.ridges) ≤ 20000 → x.ridges + y.ridges ≤ 1000 → Ok (listing x y) ≡ listing_answer (sum_meaning m o) a b
-  listing_few f r = sym (listing_is ∙ cond-true (leb (x.flats + y.flats + 2 * (x.ridges * y.ridges)) 20000 && leb (x.ridges + y.ridges) 1000) (Ok (listing x y)) (Err 16)
-      (and_from (leb (x.flats + y.flats + 2 * (x.ridges * y.ridges)) 20000) (leb (x.ridges + y.ridges) 1000) (le-leb (x.flats + y.flats + 2 * (x.ridges * y.ridges)) 20000 f) (le-leb (x.ridges + y.ridges) 1000 r)))
-
-  pub listing_many : (20000 < x.flats + y.flats + 2 * (x.ridges * y.ridges)) ⊎ (1000 < x.ridges + y.ridges) → Err 16 ≡ listing_answer (sum_meaning m o) a b
-  listing_many w = sym (listing_is ∙ cond-false (leb (x.flats + y.flats + 2 * (x.ridges * y.ridges)) 20000 && leb (x.ridges + y.ridges) 1000) (Ok (listing x y)) (Err 16) (elim w [
-    | inl f ↦ and_left (leb (x.flats + y.flats + 2 * (x.ridges * y.ridges)) 20000) (leb (x.ridges + y.ridges) 1000) (lt-leb (x.flats + y.flats + 2 * (x.ridges * y.ridges)) 20000 f)
-    | inr r ↦ and_right (leb (x.flats + y.flats + 2 * (x.ridges * y.ridges)) 20000) (leb (x.ridges + y.ridges) 1000) (lt-leb (x.ridges + y.ridges) 1000 r)
-  ]))
+      ∙ sym (λ i. cond (is_few (listing (p.counts i) (q.counts i))) (Ok (listing (p.counts i) (q.counts i))) (Err 16))
 
 -- ---- what the listing of a sum tells
 pub record Lists (a b : Sides) (l : Listing) : Type 0 where
@@ -113,17 +87,23 @@ pub told_by_listing : (m o : Meaning) → Sound m → Sound o → (a b : Sides) 
 told_by_listing m o s u a b l h = fit_told m o s u (λ e. no_ok l 13 (h ∙ ap (λ (x : Meaning). listing_answer x a b) e))
 
 -- ---- by number: the lists of the parts, one after the other
-module _ (m o : Meaning) (t : Told m o) (a b : Sides) (l : Listing) (k : Lists a b l) where
+module _ (m o : Meaning) (s : Sound m) (s' : Sound o) (a b : Sides) (l : Listing) (told : Ok l ≡ listing_answer (sum_meaning m o) a b) where
+  abbrev t : Told m o
+  t = told_by_listing m o s s' a b l told
+
+  abbrev k : Lists a b l
+  k = lists_told (sum_meaning m o) a b l told
+
   abbrev F : List Vector
   F = sum_flats k.fs k.rs k.gs k.ts
 
-  pub sum_flat_count : Ok (l.first.flats + l.second.flats + 2 * (l.first.ridges * l.second.ridges)) ≡ flat_count_answer (sum_meaning m o) (sum_sides a b)
+  pub sum_flat_count : Ok (flat_count l) ≡ flat_count_answer (sum_meaning m o) (sum_sides a b)
   sum_flat_count =
-      ap (λ (x : Listing). Ok (x.first.flats + x.second.flats + 2 * (x.first.ridges * x.second.ridges))) k.counts
+      ap (λ (x : Listing). Ok (flat_count x)) k.counts
       ∙ ap Ok (sym (flat_total k.fs k.rs k.gs k.ts)) ∙ sym (λ i. flat_count_answer (t.is i) (k.is i))
 
-  pub sum_ridge_count : Ok (l.first.ridges + l.second.ridges) ≡ ridge_count_answer (sum_meaning m o) (sum_sides a b)
-  sum_ridge_count = ap (λ (x : Listing). Ok (x.first.ridges + x.second.ridges)) k.counts ∙ ap Ok (sym (length-append k.rs k.ts)) ∙ sym (λ i. ridge_count_answer (t.is i) (k.is i))
+  pub sum_ridge_count : Ok (ridge_count l) ≡ ridge_count_answer (sum_meaning m o) (sum_sides a b)
+  sum_ridge_count = ap (λ (x : Listing). Ok (ridge_count x)) k.counts ∙ ap Ok (sym (length-append k.rs k.ts)) ∙ sym (λ i. ridge_count_answer (t.is i) (k.is i))
 
   pub ridge_of_first : (i : ℕ) → i < l.first.ridges → ridge_answer m a i ≡ ridge_answer (sum_meaning m o) (sum_sides a b) i
   ridge_of_first i h =
@@ -156,55 +136,48 @@ module _ (m o : Meaning) (t : Told m o) (a b : Sides) (l : Listing) (k : Lists a
       (λ x. product_answer (k.first x) (k.second x) (i - (k.counts x).first.flats - (k.counts x).second.flats))
       ∙ sym (numbered_right (k.fs ++ k.gs) (products k.rs k.ts) i (omega (arith, length-append k.fs k.gs)) ∙ ap (numbered (products k.rs k.ts)) e) ∙ flat_by_number i
 
--- ---- the products of ridges
-module _ (m o : Meaning) (t : Told m o) (a b : Sides) (l : Listing) (k : Lists a b l) (n : ℕ) where
-  pub product_past : 2 * (l.first.ridges * l.second.ridges) ≤ n → Err 14 ≡ product_answer a b n
-  product_past h =
-      let h' : 2 * (length k.rs * length k.ts) ≤ n = subst (λ (x : Listing). 2 * (x.first.ridges * x.second.ridges) ≤ n) k.counts h in
-      sym ((λ x. product_answer (k.first x) (k.second x) n) ∙ numbered_past (products k.rs k.ts) n (omega (arith, length-products k.rs k.ts)))
+  -- ---- the products of ridges
+  module _ (n : ℕ) where
+    pub product_past : product_count l ≤ n → Err 14 ≡ product_answer a b n
+    product_past h =
+        let h' : 2 * (length k.rs * length k.ts) ≤ n = subst (λ (x : Listing). product_count x ≤ n) k.counts h in
+        sym ((λ x. product_answer (k.first x) (k.second x) n) ∙ numbered_past (products k.rs k.ts) n (omega (arith, length-products k.rs k.ts)))
 
-  module _ (h : n < 2 * (l.first.ridges * l.second.ridges)) where
-    abbrev below : n < 2 * (length k.rs * length k.ts)
-    below = subst (λ (x : Listing). n < 2 * (x.first.ridges * x.second.ridges)) k.counts h
+    module _ (h : n < product_count l) where
+      abbrev below : n < 2 * (length k.rs * length k.ts)
+      below = subst (λ (x : Listing). n < product_count x) k.counts h
 
-    -- the ridges of the row and of the column are there
-    pub no_row : {Z : Type 0} (e : ℕ) → Err e ≡ ridge_answer m a (n / 2 / l.second.ridges) → Z
-    no_row e q = absurd (omega (
-      arith,
-      (told_past k.rs (n / 2 / length k.ts) e (q ∙ (λ x. ridge_answer (t.first.is x) (k.first x) (n / 2 / (k.counts x).second.ridges)))).0,
-      row_below (length k.rs) (length k.ts) (n / 2) (half k.rs k.ts n below),
-    ))
+      -- the ridge of the row is there
+      pub no_row : {Z : Type 0} (e : ℕ) → Err e ≡ ridge_answer m a (n / 2 / l.second.ridges) → Z
+      no_row e q = absurd (omega (
+        arith,
+        (told_past k.rs (n / 2 / length k.ts) e (q ∙ (λ x. ridge_answer (t.first.is x) (k.first x) (n / 2 / (k.counts x).second.ridges)))).0,
+        row_below (length k.rs) (length k.ts) (n / 2) (half k.rs k.ts n below),
+      ))
 
-    pub no_column : {Z : Type 0} (e : ℕ) → Err e ≡ ridge_answer o b (n / 2 % l.second.ridges) → Z
-    no_column e q = absurd (omega (
-      arith,
-      (told_past k.ts (n / 2 % length k.ts) e (q ∙ (λ x. ridge_answer (t.second.is x) (k.second x) (n / 2 % (k.counts x).second.ridges)))).0,
-      column_below (length k.rs) (length k.ts) (n / 2) (half k.rs k.ts n below),
-    ))
+      module _ (f : Bounded a) (g : Bounded b) (u v w : Vector) (p : Ok u ≡ ridge_answer m a (n / 2 / l.second.ridges)) (q : Ok v ≡ ridge_answer o b (n / 2 % l.second.ridges)) (c : w ≡ wrappedᵛ (u ⨯ v)) where
+        row : Ok u ≡ numbered k.rs (n / 2 / length k.ts)
+        row = p ∙ (λ x. ridge_answer (t.first.is x) (k.first x) (n / 2 / (k.counts x).second.ridges))
 
-    module _ (f : Bounded a) (g : Bounded b) (u v w : Vector) (p : Ok u ≡ ridge_answer m a (n / 2 / l.second.ridges)) (q : Ok v ≡ ridge_answer o b (n / 2 % l.second.ridges)) (c : w ≡ wrappedᵛ (u ⨯ v)) where
-      row : Ok u ≡ numbered k.rs (n / 2 / length k.ts)
-      row = p ∙ (λ x. ridge_answer (t.first.is x) (k.first x) (n / 2 / (k.counts x).second.ridges))
+        column : Ok v ≡ numbered k.ts (n / 2 % length k.ts)
+        column = q ∙ (λ x. ridge_answer (t.second.is x) (k.second x) (n / 2 % (k.counts x).second.ridges))
 
-      column : Ok v ≡ numbered k.ts (n / 2 % length k.ts)
-      column = q ∙ (λ x. ridge_answer (t.second.is x) (k.second x) (n / 2 % (k.counts x).second.ridges))
+        u_within : within 20000 u ≡ true
+        u_within = told_all (λ x. within 20000 x ≡ true) k.rs (subst Bounded k.first f).ridges_within (n / 2 / length k.ts) u row
 
-      u_within : within 20000 u ≡ true
-      u_within = told_all (λ x. within 20000 x ≡ true) k.rs (subst Bounded k.first f).ridges_within (n / 2 / length k.ts) u row
+        v_within : within 20000 v ≡ true
+        v_within = told_all (λ x. within 20000 x ≡ true) k.ts (subst Bounded k.second g).ridges_within (n / 2 % length k.ts) v column
 
-      v_within : within 20000 v ≡ true
-      v_within = told_all (λ x. within 20000 x ≡ true) k.ts (subst Bounded k.second g).ridges_within (n / 2 % length k.ts) v column
+        w_is : w ≡ u ⨯ v
+        w_is = c ∙ cross_exact u v u_within v_within
 
-      w_is : w ≡ u ⨯ v
-      w_is = c ∙ cross_exact u v u_within v_within
+        listed_is : w ≡ get_or k.rs (n / 2 / length k.ts) 𝟎 ⨯ get_or k.ts (n / 2 % length k.ts) 𝟎
+        listed_is = w_is ∙ (λ x. (told_entry k.rs (n / 2 / length k.ts) u row).1 x ⨯ (told_entry k.ts (n / 2 % length k.ts) v column).1 x)
 
-      listed_is : w ≡ get_or k.rs (n / 2 / length k.ts) 𝟎 ⨯ get_or k.ts (n / 2 % length k.ts) 𝟎
-      listed_is = w_is ∙ (λ x. (told_entry k.rs (n / 2 / length k.ts) u row).1 x ⨯ (told_entry k.ts (n / 2 % length k.ts) v column).1 x)
+        pub product_even : n % 2 ≡ 0 → Ok w ≡ product_answer a b n
+        product_even e = ap Ok listed_is ∙ sym (numbered_product k.rs k.ts n below e) ∙ sym (λ x. product_answer (k.first x) (k.second x) n)
 
-      pub product_even : n % 2 ≡ 0 → Ok w ≡ product_answer a b n
-      product_even e = ap Ok listed_is ∙ sym (numbered_product k.rs k.ts n below e) ∙ sym (λ x. product_answer (k.first x) (k.second x) n)
-
-      pub product_odd : ¬ (n % 2 ≡ 0) → (z : Vector) → z ≡ wrappedᵛ (negᵛ w) → Ok z ≡ product_answer a b n
-      product_odd e z d =
-          ap Ok (d ∙ neg_exact w (subst (λ (x : Vector). within 800000000 x ≡ true) (sym w_is) (cross-within u v u_within v_within)) ∙ ap negᵛ listed_is)
-          ∙ sym (numbered_opposite k.rs k.ts n below e) ∙ sym (λ x. product_answer (k.first x) (k.second x) n)
+        pub product_odd : ¬ (n % 2 ≡ 0) → (z : Vector) → z ≡ wrappedᵛ (negᵛ w) → Ok z ≡ product_answer a b n
+        product_odd e z d =
+            ap Ok (d ∙ neg_exact w (subst (λ (x : Vector). within 800000000 x ≡ true) (sym w_is) (cross-within u v u_within v_within)) ∙ ap negᵛ listed_is)
+            ∙ sym (numbered_opposite k.rs k.ts n below e) ∙ sym (λ x. product_answer (k.first x) (k.second x) n)

@@ -1,4 +1,4 @@
--- The sum of two bodies is a body: its corners fit, and its flats and ridges are few and within range.
+-- The sum of two bodies is a body: its corners fit, and its flats and ridges are few, within range and lawful.
 use Rattle.std.specs.Prelude.{◌≡◌, true, ◌&&◌, List, [], ◌∷◌, ◌++◌, length, nat_le}
 use Rattle.std.specs.List.{AllByRecursion}
 use Rattle.std.proofs.lemmas.Bool.{and_parts, cond_both, leb-true}
@@ -8,8 +8,9 @@ use Rattle.vector.proofs.Bounds.{within-neg}
 use Rattle.vector.proofs.Exact.{cross-within}
 use Rattle.convex.specs.Sides.{sums, products_with, products, sum_flats}
 use Rattle.convex.proofs.Members.{all_both}
-use Rattle.body.specs.Meaning.{Meaning, unfit, corners, Sound}
-use Rattle.body.specs.Sides.{Sides, unlisted, listed, Few, Bounded}
+use Rattle.convex.proofs.Sums.{sum_keeps_laws}
+use Rattle.body.specs.Meaning.{Meaning, unfit, corners, fits, Sound}
+use Rattle.body.specs.Sides.{Sides, unlisted, listed, Few, Bounded, Laws}
 use Rattle.body.specs.Sound.{body_of_sound}
 use Rattle.sums.specs.Sums.{sum_meaning, sum_sides}
 
@@ -42,3 +43,16 @@ sum_bounded (listed fs rs) (listed gs ts) h k =
           flats_within = all_both (λ f. within 800000000 f ≡ true) (fs ++ gs) (products rs ts) (all_both (λ f. within 800000000 f ≡ true) fs gs h.flats_within k.flats_within) (products_within rs ts h.ridges_within k.ridges_within);
           ridges_within = all_both (λ u. within 20000 u ≡ true) rs ts h.ridges_within k.ridges_within;
         }
+
+pub sum_lawful : (m o : Meaning) (a b : Sides) → Laws m a → Laws o b → Laws (sum_meaning m o) (sum_sides a b)
+sum_lawful unfit o a b h k = tt
+sum_lawful (corners A) unfit a b h k = tt
+sum_lawful (corners A) (corners B) a b h k =
+    cond_both (fits (sums A B)) (corners (sums A B)) unfit (λ m. Laws m (sum_sides a b)) (λ e. kept a b h k) (λ e. tt)
+  where
+    kept : (a b : Sides) → Laws (corners A) a → Laws (corners B) b → Laws (corners (sums A B)) (sum_sides a b)
+    kept unlisted b h k = tt
+    kept (listed fs rs) unlisted h k = tt
+    kept (listed fs rs) (listed gs ts) h k =
+        cond_both (nat_le (length (sum_flats fs rs gs ts)) 20000 && nat_le (length (rs ++ ts)) 1000) (listed (sum_flats fs rs gs ts) (rs ++ ts)) unlisted (Laws (corners (sums A B)))
+        (λ e. sum_keeps_laws A fs rs B gs ts h k) (λ e. tt)

@@ -1,5 +1,5 @@
 -- What the sum of two bodies means (the Minkowski sum).
-use Rattle.std.specs.Prelude.{ℕ, cond, ◌&&◌, List, ◌++◌, length, Ok, Err, Result, nat_le}
+use Rattle.std.specs.Prelude.{ℕ, ◌+◌, ◌*◌, Bool, cond, ◌&&◌, List, ◌++◌, length, Ok, Err, Result, nat_le}
 use Rattle.vector.specs.declared.Vector.{Vector}
 use Rattle.convex.specs.Sides.{sums, products, sum_flats}
 use Rattle.body.specs.Meaning.{Meaning, unfit, corners, body_of}
@@ -36,6 +36,20 @@ listing_answer unfit a b = Err 13
 listing_answer (corners cs) unlisted b = Err 16
 listing_answer (corners cs) (listed fs rs) unlisted = Err 16
 listing_answer (corners cs) (listed fs rs) (listed gs ts) = cond (nat_le (length (sum_flats fs rs gs ts)) 20000 && nat_le (length (rs ++ ts)) 1000) (Ok (record { first = counts_of fs rs; second = counts_of gs ts })) (Err 16)
+
+-- how many products of ridges, flats and ridges the sum has by what its parts list
+abbrev pub product_count : Listing → ℕ
+product_count l = 2 * (l.first.ridges * l.second.ridges)
+
+abbrev pub flat_count : Listing → ℕ
+flat_count l = l.first.flats + l.second.flats + product_count l
+
+abbrev pub ridge_count : Listing → ℕ
+ridge_count l = l.first.ridges + l.second.ridges
+
+-- they are few enough to be listed
+abbrev pub is_few : Listing → Bool
+is_few l = nat_le (flat_count l) 20000 && nat_le (ridge_count l) 1000
 
 -- a product of ridges, or its opposite, by number
 abbrev pub product_answer : Sides → Sides → ℕ → Result Vector ℕ

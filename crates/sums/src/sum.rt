@@ -1,12 +1,11 @@
 // The sum of two bodies: each point of the first plus each point of the second (the Minkowski sum).
 ghost use Rattle.std.specs.Prelude.{◌≡◌, Ok as Told};
 ghost use Rattle.refusal.specs.Numbers.{told};
-ghost use Rattle.body.specs.Sides.{Laws};
 ghost use Rattle.sums.specs.Sums.{sum_meaning, sum_sides, listing_answer, product_answer};
-ghost use Rattle.sums.specs.Sound.{sum_sound, sum_bounded};
+ghost use Rattle.sums.specs.Sound.{sum_sound, sum_bounded, sum_lawful};
 
 use crate::listing::{Listing, counts_of};
-use body::{Body, Extent, MOST_CORNERS, MOST_FLATS, MOST_RIDGES, Sided};
+use body::{Body, Extent, MOST_CORNERS, Sided};
 use refusal::Refusal;
 use vector::Vector;
 
@@ -65,17 +64,16 @@ impl<P: Body, Q: Body> Body for Sum<P, Q> {
 impl<P: Sided, Q: Sided> Sum<P, Q> {
     // What the parts list, if the sum is fit and lists its own.
     fn listing(&self) -> Result<Listing, Refusal>
-        ensures answer { told result ≡ listing_answer (sum_meaning (P.Body.meaning self.now.first) (Q.Body.meaning self.now.second)) (P.Sided.sides self.now.first) (Q.Sided.sides self.now.second) }
-        ensures laws { Laws (sum_meaning (P.Body.meaning self.now.first) (Q.Body.meaning self.now.second)) (sum_sides (P.Sided.sides self.now.first) (Q.Sided.sides self.now.second)) }
+        ensures { told result ≡ listing_answer (sum_meaning (P.Body.meaning self.now.first) (Q.Body.meaning self.now.second)) (P.Sided.sides self.now.first) (Q.Sided.sides self.now.second) }
     {
         self.extent()?;
         let first = counts_of(&self.first)?;
         let second = counts_of(&self.second)?;
-        let flats = first.flats + second.flats + 2 * (first.ridges * second.ridges);
-        if flats > MOST_FLATS || first.ridges + second.ridges > MOST_RIDGES {
+        let listing = Listing { first, second };
+        if !listing.is_few() {
             return Err(Refusal::Unlisted);
         }
-        Ok(Listing { first, second })
+        Ok(listing)
     }
 
     // Product number t: for each ridge u of the first and, within it, v of the second, u × v and then its opposite.
@@ -83,7 +81,7 @@ impl<P: Sided, Q: Sided> Sum<P, Q> {
         requires { Told l ≡ listing_answer (sum_meaning (P.Body.meaning self.now.first) (Q.Body.meaning self.now.second)) (P.Sided.sides self.now.first) (Q.Sided.sides self.now.second) }
         ensures { told result ≡ product_answer (P.Sided.sides self.now.first) (Q.Sided.sides self.now.second) t }
     {
-        if t >= 2 * (l.first.ridges * l.second.ridges) {
+        if t >= l.products() {
             return Err(Refusal::OutOfRange);
         }
         let u = self.first.ridge(t / 2 / l.second.ridges)?;
@@ -98,9 +96,10 @@ impl<P: Sided, Q: Sided> Sided for Sum<P, Q> {
 
     ghost bounded = { λ s. sum_bounded (P.Sided.sides s.first) (Q.Sided.sides s.second) (P.Sided.bounded s.first) (Q.Sided.bounded s.second) };
 
+    ghost lawful = { λ s. sum_lawful (P.Body.meaning s.first) (Q.Body.meaning s.second) (P.Sided.sides s.first) (Q.Sided.sides s.second) (P.Sided.lawful s.first) (Q.Sided.lawful s.second) };
+
     fn flat_count(&self) -> Result<usize, Refusal> {
-        let l = self.listing()?;
-        Ok(l.first.flats + l.second.flats + 2 * (l.first.ridges * l.second.ridges))
+        Ok(self.listing()?.flats())
     }
 
     fn flat(&self, i: usize) -> Result<Vector, Refusal> {
@@ -116,8 +115,7 @@ impl<P: Sided, Q: Sided> Sided for Sum<P, Q> {
     }
 
     fn ridge_count(&self) -> Result<usize, Refusal> {
-        let l = self.listing()?;
-        Ok(l.first.ridges + l.second.ridges)
+        Ok(self.listing()?.ridges())
     }
 
     fn ridge(&self, i: usize) -> Result<Vector, Refusal> {

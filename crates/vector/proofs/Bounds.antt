@@ -1,8 +1,8 @@
 -- Ranges of sums and products, and the vectors whose products fit 64 bits.
-use Rattle.std.proofs.Common.{◌≡◌, ℕ, zero, suc, ◌+◌, ◌*◌, ◌^◌, ◌<◌, ◌≤◌, true, ◌&&◌, ℤ, pos, negsuc, ◌+ℤ◌, ◌-ℤ◌, ◌*ℤ◌, neg_ℤ, nat_abs, sym, refl, subst, arith, w64, SFits}
+use Rattle.std.proofs.Common.{◌≡◌, ℕ, zero, suc, ◌+◌, ◌*◌, ◌^◌, ◌<◌, ◌≤◌, true, ◌&&◌, ℤ, pos, negsuc, ◌+ℤ◌, ◌-ℤ◌, ◌*ℤ◌, neg_ℤ, nat_abs, sym, subst, arith, w64, SFits}
 use lib.Signed.{le_z}
 use Rattle.std.specs.Int.{int_wrap}
-use Rattle.std.proofs.lemmas.Int.{ints, int_wrap_fits}
+use Rattle.std.proofs.lemmas.Int.{ints, int_wrap_fits, unsigned_abs-mul}
 use Rattle.std.proofs.lemmas.Bool.{and_parts, and_from}
 use Rattle.std.proofs.lemmas.Nat.{mul-le}
 use Rattle.vector.specs.declared.Vector.{Vector}
@@ -39,20 +39,10 @@ inside-neg m a h = let k = abs_from_inside m a h in inside_from_abs m (neg_ℤ a
     same (pos (suc n)) k = k
     same (negsuc n) k = k
 
-abs_neg : (n : ℕ) → nat_abs (neg_ℤ (pos n)) ≡ n
-abs_neg zero = refl
-abs_neg (suc n) = refl
-
-pub abs_times : (a b : ℤ) → nat_abs (a *ℤ b) ≡ nat_abs a * nat_abs b
-abs_times (pos a) (pos b) = refl
-abs_times (pos a) (negsuc b) = abs_neg (a * suc b)
-abs_times (negsuc a) (pos b) = abs_neg (suc a * b)
-abs_times (negsuc a) (negsuc b) = refl
-
 pub inside-times : (m n : ℕ) (a b : ℤ) → inside m a ≡ true → inside n b ≡ true → inside (m * n) (a *ℤ b) ≡ true
 inside-times m n a b h k =
     inside_from_abs (m * n) (a *ℤ b)
-    (subst (λ x. x ≤ m * n) (sym (abs_times a b)) (mul-le (nat_abs a) (nat_abs b) m n (abs_from_inside m a h) (abs_from_inside n b k)))
+    (subst (λ x. x ≤ m * n) (sym (unsigned_abs-mul a b)) (mul-le (nat_abs a) (nat_abs b) m n (abs_from_inside m a h) (abs_from_inside n b k)))
 
 pub fits_inside : (m : ℕ) (a : ℤ) → m < 2 ^ 63 → inside m a ≡ true → SFits w64 a
 fits_inside m a s h = let k = abs_from_inside m a h in grind (arith, ints)

@@ -4,5 +4,4 @@ pub mod Order
 pub mod Identities
 pub mod Bounds
 pub mod Exact
-mod Wrapping
 mod Square

@@ -1,6 +1,7 @@
 -- ℤ as an ordered ring: products of signs, an inequality multiplied, and a factor cancelled.
 -- Linear steps are `omega (arith, lin)`, with every product an unknown.
 use Rattle.std.proofs.Common.{◌≡◌, zero, suc, ◌⊎◌, [], ◌∷◌, ℤ, pos, negsuc, ◌+ℤ◌, ◌-ℤ◌, ◌*ℤ◌, neg_ℤ, ◌≤ℤ◌, ◌<ℤ◌, refl, inl, inr, arith}
+pub use lib.IntN.{*ℤ-zero as times_nought, zero-*ℤ as nought_times}
 use borrow.Author.Differences.{same_out, Apart-out, lt_out, le_out, same_in, below_in, at_most_in, sum_is_lem, neg_is, abs_is}
 use Rattle.vector.proofs.Ring.{var, num, ◌⊕◌, ◌⊗◌, ◌⊝◌, neg, ring}
 
@@ -45,14 +46,8 @@ mul_strict k a b h l =
     ring (k ∷ a ∷ b ∷ []) ((var 0 ⊝ num (pos 1)) ⊗ (var 2 ⊝ var 1 ⊝ num (pos 1))) (var 0 ⊗ var 2 ⊝ var 0 ⊗ var 1 ⊝ var 0 ⊝ var 2 ⊕ var 1 ⊕ num (pos 1)) refl in
     omega (arith, lin)
 
-pub times_nought : (k : ℤ) → k *ℤ pos 0 ≡ pos 0
-times_nought k = ring (k ∷ []) (var 0 ⊗ num (pos 0)) (num (pos 0)) refl
-
 pub one_times : (k : ℤ) → pos 1 *ℤ k ≡ k
 one_times k = ring (k ∷ []) (num (pos 1) ⊗ var 0) (var 0) refl
-
-pub nought_times : (k : ℤ) → pos 0 *ℤ k ≡ pos 0
-nought_times k = ring (k ∷ []) (num (pos 0) ⊗ var 0) (num (pos 0)) refl
 
 pub neg-times : (a b : ℤ) → neg_ℤ a *ℤ b ≡ neg_ℤ (a *ℤ b)
 neg-times a b = ring (a ∷ b ∷ []) (neg (var 0) ⊗ var 1) (neg (var 0 ⊗ var 1)) refl

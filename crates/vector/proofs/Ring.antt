@@ -3,7 +3,7 @@
 use Rattle.std.proofs.Common.{◌≡◌, ℕ, zero, suc, true, false, T, ltb, List, [], ◌∷◌, ◌++◌, get_or, ℤ, pos, negsuc, ◌+ℤ◌, ◌*ℤ◌, neg_ℤ, sym, refl, ap, ◌∙◌, subst, arith, eqb→eq}
 use Prim.Native.Nat.{compare, Ordering}
 use lib.Dec.{compare_is_eq}
-use lib.IntN.{one, +ℤ_assoc, +ℤ_comm, +ℤ_idl, +ℤ_idr, *ℤ_comm, *ℤ-one, zero-*ℤ}
+use lib.IntN.{one, +ℤ_assoc, +ℤ_comm, +ℤ_idl, +ℤ_idr, *ℤ_comm, *ℤ-one, *ℤ-zero, zero-*ℤ}
 use borrow.Author.Differences.{ints}
 use Rattle.vector.proofs.Integers.{*ℤ_assoc, *ℤ-+ℤ, +ℤ-*ℤ}
 
@@ -107,9 +107,6 @@ one_times a = *ℤ_comm (pos 1) a ∙ times_one a
 minus_one_times : (a : ℤ) → negsuc 0 *ℤ a ≡ neg_ℤ a
 minus_one_times a = omega (arith, ints)
 
-times_zero : (a : ℤ) → a *ℤ pos 0 ≡ pos 0
-times_zero a = *ℤ_comm a (pos 0) ∙ zero-*ℤ a
-
 swapped : (a b c : ℤ) → a *ℤ (b *ℤ c) ≡ b *ℤ (a *ℤ c)
 swapped a b c = sym (*ℤ_assoc a b c) ∙ ap (λ x. x *ℤ c) (*ℤ_comm a b) ∙ *ℤ_assoc b a c
 
@@ -126,7 +123,7 @@ module _ (vs : List ℤ) where
   plus_is (term c m p) q = ap (λ x. c *ℤ monomial vs m +ℤ x) (plus_is p q) ∙ sym (+ℤ_assoc (c *ℤ monomial vs m) (value vs p) (value vs q))
 
   scaled_is : (c : ℤ) (m : List ℕ) (q r : Poly) → value vs (scaled c m q r) ≡ c *ℤ monomial vs m *ℤ value vs q +ℤ value vs r
-  scaled_is c m nil r = sym (ap (λ x. x +ℤ value vs r) (times_zero (c *ℤ monomial vs m)) ∙ +ℤ_idl (value vs r))
+  scaled_is c m nil r = sym (ap (λ x. x +ℤ value vs r) (*ℤ-zero (c *ℤ monomial vs m)) ∙ +ℤ_idl (value vs r))
   scaled_is c m (term d n q) r =
       (λ i. c *ℤ d *ℤ monomial-++ m n i +ℤ scaled_is c m q r i)
       ∙ ap (λ x. x +ℤ (c *ℤ monomial vs m *ℤ value vs q +ℤ value vs r)) (fours c d (monomial vs m) (monomial vs n))
@@ -208,47 +205,3 @@ module _ (vs : List ℤ) where
 
   pub ring : (e f : Exp) → norm e ≡ norm f → eval vs e ≡ eval vs f
   ring e f h = sym (norm_is e) ∙ ap (value vs) h ∙ norm_is f
-
--- ---- the expression of a number, found by `search`
--- An element of `Quoted vs a` is an expression whose value at vs is a: `search quote` finds one. So `by-ring vs (search quote depth 30 fits 20000) refl`
--- proves an equation of sums, products and negations of the members of vs and of numerals.
-pub data Member : List ℤ → ℤ → Type 0 where
-  first : {a : ℤ} {vs : List ℤ} → Member (a ∷ vs) a
-  later : {a b : ℤ} {vs : List ℤ} → Member vs a → Member (b ∷ vs) a
-
-pub data Quoted (vs : List ℤ) : ℤ → Type 0 where
-  quote_var : {a : ℤ} → Member vs a → Quoted vs a
-  quote_pos : (n : ℕ) → Quoted vs (pos n)
-  quote-neg : (n : ℕ) → Quoted vs (negsuc n)
-  quote-⊕ : {a b : ℤ} → Quoted vs a → Quoted vs b → Quoted vs (a +ℤ b)
-  quote-⊗ : {a b : ℤ} → Quoted vs a → Quoted vs b → Quoted vs (a *ℤ b)
-  quote-⊖ : {a : ℤ} → Quoted vs a → Quoted vs (neg_ℤ a)
-
-pub ruleset quote = (quote-⊕, quote-⊗, quote-⊖, first, later, quote_var, quote_pos, quote-neg)
-
-abbrev pub place : {vs : List ℤ} {a : ℤ} → Member vs a → ℕ
-place first = 0
-place (later p) = suc (place p)
-
-abbrev pub exp : {vs : List ℤ} {a : ℤ} → Quoted vs a → Exp
-exp (quote_var p) = var (place p)
-exp (quote_pos n) = num (pos n)
-exp (quote-neg n) = num (negsuc n)
-exp (quote-⊕ p q) = exp p ⊕ exp q
-exp (quote-⊗ p q) = exp p ⊗ exp q
-exp (quote-⊖ p) = neg (exp p)
-
-place_is : {vs : List ℤ} {a : ℤ} (p : Member vs a) → get_or vs (place p) (pos 0) ≡ a
-place_is first = refl
-place_is (later p) = place_is p
-
-exp_is : {vs : List ℤ} {a : ℤ} (q : Quoted vs a) → eval vs (exp q) ≡ a
-exp_is (quote_var p) = place_is p
-exp_is (quote_pos n) = refl
-exp_is (quote-neg n) = refl
-exp_is (quote-⊕ p q) = λ i. exp_is p i +ℤ exp_is q i
-exp_is (quote-⊗ p q) = λ i. exp_is p i *ℤ exp_is q i
-exp_is (quote-⊖ p) = ap neg_ℤ (exp_is p)
-
-pub by_ring : (vs : List ℤ) {a b : ℤ} (s : Quoted vs a × Quoted vs b) → norm (exp s.0) ≡ norm (exp s.1) → a ≡ b
-by_ring vs s h = sym (exp_is s.0) ∙ ring vs (exp s.0) (exp s.1) h ∙ exp_is s.1

@@ -8,7 +8,8 @@ ghost use Rattle.vector.specs.Vectors.{precedes as before};
 ghost use Rattle.vector.specs.Wrapped.{wrappedᵛ};
 ghost use Rattle.vector.specs.Laws.{Square};
 
-#[derive(Clone, Copy, PartialEq, Eq, Debug)]
+// Vectors compare by x, then y, then z.
+#[derive(Clone, Copy, PartialEq, Eq, PartialOrd, Ord, Hash, Debug)]
 pub struct Vector {
     pub x: i64,
     pub y: i64,
@@ -20,7 +21,7 @@ fn is_inside(z: i64, m: u32) -> bool
     ensures { result ≡ inside m z }
 {
     let m = i64::from(m);
-    -m <= z && z <= m
+    (-m..=m).contains(&z)
 }
 
 // a·b − c·d modulo 2^64.
@@ -31,6 +32,7 @@ fn minor(a: i64, b: i64, c: i64, d: i64) -> i64
 }
 
 impl Vector {
+    // The vector whose components are all 0.
     pub const ZERO: Vector = Vector { x: 0, y: 0, z: 0 };
 
     // The product of a direction and a corner (dot product) modulo 2^64: exact wherever it fits 64 bits.
@@ -54,26 +56,34 @@ impl Vector {
         }
     }
 
-    // self + v, each component modulo 2^64.
-    pub fn plus(self, v: Vector) -> Vector
-        ensures { result ≡ wrappedᵛ (self +ᵛ v) }
+    // The vector of what f gives for each two components.
+    fn by_component<F: Fn(i64, i64) -> i64>(self, v: Vector, f: F) -> Vector
+        requires { F.IsAlwaysCallable f }
+        ensures x { F.post f self.x v.x result.x }
+        ensures y { F.post f self.y v.y result.y }
+        ensures z { F.post f self.z v.z result.z }
     {
         Vector {
-            x: self.x.wrapping_add(v.x),
-            y: self.y.wrapping_add(v.y),
-            z: self.z.wrapping_add(v.z),
+            x: f(self.x, v.x),
+            y: f(self.y, v.y),
+            z: f(self.z, v.z),
         }
     }
 
+    // self + v, each component modulo 2^64.
+    #[tactic(auto, using(std::proofs::lemmas::Int::wraps))]
+    pub fn plus(self, v: Vector) -> Vector
+        ensures { result ≡ wrappedᵛ (self +ᵛ v) }
+    {
+        self.by_component(v, |a, b| a.wrapping_add(b))
+    }
+
     // self − v, each component modulo 2^64.
+    #[tactic(auto, using(std::proofs::lemmas::Int::wraps))]
     pub fn minus(self, v: Vector) -> Vector
         ensures { result ≡ wrappedᵛ (self -ᵛ v) }
     {
-        Vector {
-            x: self.x.wrapping_sub(v.x),
-            y: self.y.wrapping_sub(v.y),
-            z: self.z.wrapping_sub(v.z),
-        }
+        self.by_component(v, |a, b| a.wrapping_sub(b))
     }
 
     // The opposite, each component modulo 2^64.
@@ -83,17 +93,18 @@ impl Vector {
         Vector::ZERO.minus(self)
     }
 
+    // Whether each component is 0.
     pub fn is_zero(self) -> bool
         ensures { result ≡ is_zero self }
     {
-        self.x == 0 && self.y == 0 && self.z == 0
+        self == Vector::ZERO
     }
 
     // Whether a corner row comes before another: by x, then y, then z.
     pub fn precedes(self, v: Vector) -> bool
         ensures { result ≡ before self v }
     {
-        self.x < v.x || (self.x == v.x && (self.y < v.y || (self.y == v.y && self.z < v.z)))
+        self < v
     }
 
     // Whether each component is at most that of v.
@@ -107,22 +118,14 @@ impl Vector {
     pub fn least(self, v: Vector) -> Vector
         ensures { result ≡ least_of self v }
     {
-        Vector {
-            x: self.x.min(v.x),
-            y: self.y.min(v.y),
-            z: self.z.min(v.z),
-        }
+        self.by_component(v, i64::min)
     }
 
     // The greater of the two in each component.
     pub fn greatest(self, v: Vector) -> Vector
         ensures { result ≡ greatest_of self v }
     {
-        Vector {
-            x: self.x.max(v.x),
-            y: self.y.max(v.y),
-            z: self.z.max(v.z),
-        }
+        self.by_component(v, i64::max)
     }
 
     // Whether each component lies from -m to m.

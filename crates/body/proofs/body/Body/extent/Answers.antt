@@ -1,4 +1,4 @@
-use Rattle.body.proofs.Asking.{extent_begun, extent_turn, extent_ends}
+use Rattle.body.proofs.Asking.{extent_begun, extent_turn}
 use Rattle.body.proofs.body.Body.extent.Goals as goal
 
 pub loop-i-init : goal.loop-i-init
@@ -7,7 +7,3 @@ loop-i-init g c = extent_begun (g.Self.Body.meaning c.args.self.now) (g.Self.Bod
 pub loop-i-preserved : goal.loop-i-preserved
 loop-i-preserved g c =
     extent_turn (g.Self.Body.meaning c.args.self.now) (g.Self.Body.sound c.args.self.now) c.loop-i.i c.in_ok-c.c c.in_ok-c.ensures c.loop-i.extent c.loop-i.invariant c.widened-extent.result c.widened-extent.ensures c.loop-i.auto.i
-
-pub returns : goal.returns
-returns g c =
-    extent_ends (g.Self.Body.meaning c.args.self.now) (g.Self.Body.sound c.args.self.now) c.in_ok-count.count c.in_ok-count.ensures c.loop-i.i c.loop-i-test.false c.loop-i.extent c.loop-i.invariant

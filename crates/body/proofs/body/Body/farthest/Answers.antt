@@ -1,11 +1,8 @@
 use Rattle.std.proofs.Common.{◌≤◌, sym, ◌∙◌, arith}
 use Rattle.body.proofs.Told.{no_corner_missing, told_count}
-use Rattle.body.proofs.Asking.{farthest_begun, farthest_taken, farthest_kept, farthest_ends}
+use Rattle.body.proofs.Asking.{farthest_taken, farthest_kept, farthest_ends}
 use Rattle.body.proofs.body.Body.farthest.Goals as goal
 use Rattle.body.proofs.body.Body.farthest.Goals.{then-dot, else-dot}
-
-pub loop-i-init : goal.loop-i-init
-loop-i-init g c = farthest_begun (g.Self.Body.meaning c.args.self.now) (g.Self.Body.sound c.args.self.now) c.args.n c.in_ok-top.top c.in_ok-top.ensures
 
 pub returns-in_err-c : goal.returns-in_err-c
 returns-in_err-c g c =

@@ -1,9 +1,6 @@
 use Rattle.std.proofs.Common.{sym, ◌∙◌}
-use Rattle.layers.proofs.Shifting.{extent_far, shift_extent}
+use Rattle.layers.proofs.Shifting.{shift_extent}
 use Rattle.layers.proofs.shifted.ShiftedBody.extent.Goals as goal
-
-pub returns-then-not-is_within : goal.returns-then-not-is_within
-returns-then-not-is_within g c = extent_far c.args.self.now.by (g.B.Body.meaning c.args.self.now.body) (sym c.is_within.ensures ∙ c.if-not-is_within.true)
 
 pub returns : goal.returns
 returns g c =

@@ -1,8 +1,10 @@
 use Rattle.std.proofs.Common.{◌∙◌}
-use Rattle.layers.proofs.Shifting.{shift_told, shift_farthest}
+use Rattle.layers.proofs.Shifting.{fit_told, shift_farthest}
 use Rattle.layers.proofs.shifted.ShiftedBody.farthest.Goals as goal
 
 pub returns : goal.returns
 returns g c =
-    c.farthest.ensures ∙ shift_farthest c.args.self.now.by (g.B.Body.meaning c.args.self.now.body)
-    (shift_told c.args.self.now.by (g.B.Body.meaning c.args.self.now.body) (g.B.Body.sound c.args.self.now.body) c.in_ok-extent.field-0 c.in_ok-extent.ensures) c.args.n
+    let v = c.args.self.now.by in
+    let m = g.B.Body.meaning c.args.self.now.body in
+    let s = g.B.Body.sound c.args.self.now.body in
+    rw c.in_ok-fit.ensures.body at c.farthest.ensures ∙ shift_farthest v m (fit_told v m s c.in_ok-fit.ensures.fit) c.args.n

@@ -1,33 +1,29 @@
-use Rattle.std.proofs.Common.{inl, inr}
-use Rattle.sums.proofs.sum.Sum.listing.Goals.{then-flats-gt-MOST_FLATS-via-then-flats-gt-MOST_FLATS as by-flats, then-flats-gt-MOST_FLATS-via-else-flats-gt-MOST_FLATS+then-first-second-gt-MOST_RIDGES as by-ridges}
+use Rattle.std.proofs.Common.{Err, sym, ◌∙◌}
+use Rattle.std.proofs.lemmas.Bool.{cond-true, cond-false}
 use Rattle.sums.proofs.Corners.{told_by_extent}
-use Rattle.sums.proofs.Flats.{sum_laws, listing_few, listing_many}
+use Rattle.sums.proofs.Flats.{listing_is}
 use Rattle.sums.proofs.sum.Sum.listing.Goals as goal
 
-pub returns-then-flats-gt-MOST_FLATS : goal.returns-then-flats-gt-MOST_FLATS
-returns-then-flats-gt-MOST_FLATS g c =
+pub returns-then-not-is_few : goal.returns-then-not-is_few
+returns-then-not-is_few g c =
     let m = g.P.Body.meaning c.args.self.now.first in
     let o = g.Q.Body.meaning c.args.self.now.second in
+    let s = g.P.Body.sound c.args.self.now.first in
+    let u = g.Q.Body.sound c.args.self.now.second in
     let a = g.P.Sided.sides c.args.self.now.first in
     let b = g.Q.Sided.sides c.args.self.now.second in
-    let t = told_by_extent m o (g.P.Body.sound c.args.self.now.first) (g.Q.Body.sound c.args.self.now.second) c.in_ok-extent.field-0 c.in_ok-extent.ensures in
-    record {
-      answer = listing_many m o t a b c.in_ok-first.first c.in_ok-second.second c.in_ok-first.ensures.answer c.in_ok-second.ensures.answer
-          (elim c.then-flats-gt-MOST_FLATS.branch [
-            | by-flats w ↦ inl w.if-flats-gt-MOST_FLATS.true
-            | by-ridges w ↦ inr w.if-first-second-gt-MOST_RIDGES.true
-          ]);
-      laws = sum_laws m o t a b c.in_ok-first.ensures.laws c.in_ok-second.ensures.laws;
-    }
+    let t = told_by_extent m o s u c.in_ok-extent.field-0 c.in_ok-extent.ensures in
+    let e = listing_is m o t a b c.in_ok-first.first c.in_ok-second.second c.in_ok-first.ensures c.in_ok-second.ensures in
+    sym (e ∙ cond-false _ _ (Err 16) (sym c.is_few.ensures ∙ c.if-not-is_few.true))
 
 pub returns : goal.returns
 returns g c =
     let m = g.P.Body.meaning c.args.self.now.first in
     let o = g.Q.Body.meaning c.args.self.now.second in
+    let s = g.P.Body.sound c.args.self.now.first in
+    let u = g.Q.Body.sound c.args.self.now.second in
     let a = g.P.Sided.sides c.args.self.now.first in
     let b = g.Q.Sided.sides c.args.self.now.second in
-    let t = told_by_extent m o (g.P.Body.sound c.args.self.now.first) (g.Q.Body.sound c.args.self.now.second) c.in_ok-extent.field-0 c.in_ok-extent.ensures in
-    record {
-      answer = listing_few m o t a b c.in_ok-first.first c.in_ok-second.second c.in_ok-first.ensures.answer c.in_ok-second.ensures.answer c.if-flats-gt-MOST_FLATS.false c.if-first-second-gt-MOST_RIDGES.false;
-      laws = sum_laws m o t a b c.in_ok-first.ensures.laws c.in_ok-second.ensures.laws;
-    }
+    let t = told_by_extent m o s u c.in_ok-extent.field-0 c.in_ok-extent.ensures in
+    let e = listing_is m o t a b c.in_ok-first.first c.in_ok-second.second c.in_ok-first.ensures c.in_ok-second.ensures in
+    sym (e ∙ cond-true _ _ (Err 16) (sym c.is_few.ensures ∙ c.if-not-is_few.false))

@@ -1,11 +1,5 @@
-use Rattle.std.proofs.Common.{rules}
-use Rattle.sums.proofs.Corners.{product_small, too_many, sum_extent}
+use Rattle.sums.proofs.Corners.{too_many, sum_extent}
 use Rattle.sums.proofs.sum.SumBody.extent.Goals as goal
-
-pub overflow_mul-n : goal.overflow_mul-n
-overflow_mul-n g c =
-    let p = product_small (g.P.Body.meaning c.args.self.now.first) (g.Q.Body.meaning c.args.self.now.second) (g.P.Body.sound c.args.self.now.first) (g.Q.Body.sound c.args.self.now.second) c.in_ok-n.n c.in_ok-k.k c.in_ok-n.ensures c.in_ok-k.ensures in
-    search rules
 
 pub returns-then-n-k-gt-MOST_CORNERS : goal.returns-then-n-k-gt-MOST_CORNERS
 returns-then-n-k-gt-MOST_CORNERS g c =
