@@ -9,6 +9,7 @@ use crate::extent::Extent;
 use refusal::Refusal;
 use vector::Vector;
 
+// A body is unfit, or has a list of corners.
 pub trait Body {
     // what the body is: unfit, or its corners
     ghost meaning: { Self → Meaning };

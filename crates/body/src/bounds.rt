@@ -12,7 +12,8 @@ pub const DIRECTION: u32 = 800_000_000;
 // How many corners a body may have.
 pub const MOST_CORNERS: usize = 1_024;
 
-// How many flats and ridges a sided body may list.
+// How many flats a sided body may list.
 pub const MOST_FLATS: usize = 20_000;
 
+// How many ridges a sided body may list.
 pub const MOST_RIDGES: usize = 1_000;

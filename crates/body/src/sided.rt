@@ -8,6 +8,7 @@ use crate::body::Body;
 use refusal::Refusal;
 use vector::Vector;
 
+// A body with a list of flats and one of ridges, or with too many to list.
 pub trait Sided: Body {
     // its flats and ridges, or that they are too many to list
     ghost sides: { Self → Sides };

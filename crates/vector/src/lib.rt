@@ -56,7 +56,7 @@ impl Vector {
         }
     }
 
-    // The vector of what f gives for each two components.
+    // f of the two x, of the two y and of the two z.
     fn by_component<F: Fn(i64, i64) -> i64>(self, v: Vector, f: F) -> Vector
         requires { F.IsAlwaysCallable f }
         ensures x { F.post f self.x v.x result.x }
