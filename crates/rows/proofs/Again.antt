@@ -2,13 +2,14 @@
 use Rattle.std.proofs.Common.{◌≡◌, ℕ, zero, suc, ◌+◌, ◌-◌, ◌*◌, ◌<◌, ◌≤◌, true, List, [], ◌∷◌, ◌++◌, length, get_or, take, drop, sym, refl, ap, ◌∙◌, mul-suc, add-one, arith, take-add}
 use Rattle.std.specs.List.{flat_map}
 use Rattle.std.proofs.lemmas.List.{drop_more, flat_map_more, take_all, length-drop, drop-drop, take-append-drop}
-use Rattle.std.proofs.lemmas.List.FromFn.{length-map-range_with_len, map-range_with_len_more}
+use Rattle.std.proofs.lemmas.List.FromFn.{map-range_with_len_more}
 use Rattle.rows.specs.declared.counts.Counts.{Counts}
 use Rattle.rows.specs.Bytes.{Bytes, u16_at, i16_at, u32_at, two_bytes, four_bytes, in16}
 use Rattle.rows.specs.Fields.{corner_at, ridge_at, corner_bytes, ridge_bytes}
-use Rattle.rows.specs.Captures.{each, rows_by, rows_in, trailer_in, capture, counts}
+use Rattle.rows.specs.Captures.{each, rows_in, trailer_in, capture, counts}
 use Rattle.rows.specs.Trailers.{trailer_at, layout, trailer_bytes}
 use Rattle.rows.proofs.Layouts.{Laid, laid}
+use Rattle.rows.proofs.Reading.{counts_read}
 use Rattle.rows.proofs.Digits.{bytes_of_two, bytes_of_four, in16_back}
 
 -- ---- parts of a list, element by element
@@ -75,9 +76,6 @@ trailer_again bs i b e l =
     distance j p h = ap two_bytes (sym p) ∙ two_again bs j b h
 
 -- ---- the whole
-pub counts_by : (n : Counts) (bs : List ℕ) → counts (rows_by n bs) ≡ n
-counts_by n bs = λ i. record { corners = length-map-range_with_len (λ k. corner_at bs (6 * k)) 0 n.corners i; flats = length-map-range_with_len (λ k. u32_at bs (6 * n.corners + 4 * k)) 0 n.flats i; ridges = length-map-range_with_len (λ k. ridge_at bs (6 * n.corners + 4 * n.flats + 2 * k)) 0 n.ridges i }
-
 pub again : (bs : List ℕ) → Bytes bs → layout (length bs) (trailer_in bs) ≡ true → capture (rows_in bs) ≡ bs
 again bs b h =
     (λ i. corners i ++ (flats i ++ (ridges i ++ trailer i)))
@@ -115,7 +113,7 @@ again bs b h =
     ridges = table_again ridge_bytes _ bs (6 * c + 4 * f) 2 r (λ k h. ridge_again bs (6 * c + 4 * f + 2 * k) (omega (arith, whole)))
 
     trailer : trailer_bytes (counts (rows_in bs)) ≡ drop (length bs - 10) bs
-    trailer = ap trailer_bytes (counts_by n bs) ∙ trailer_again bs (length bs - 10) b (omega (arith, whole)) l
+    trailer = ap trailer_bytes (counts_read n _ _ _ refl refl refl) ∙ trailer_again bs (length bs - 10) b (omega (arith, whole)) l
 
     cut : (i m j : ℕ) → i + m ≡ j → take m (drop i bs) ++ drop j bs ≡ drop i bs
     cut i m j e = ap (λ k. take m (drop i bs) ++ drop k bs) (sym e) ∙ ap (λ t. take m (drop i bs) ++ t) (sym (drop-drop m i bs)) ∙ take-append-drop m (drop i bs)

@@ -91,7 +91,7 @@ module _ {X : Type 0} (w : X → List ℕ) (width : ℕ) (wide : (x : X) → len
 
 -- ---- the whole
 pub rows_come_back : RowsComeBack
-rows_come_back R s = decoding_laid bs (omega (arith, z, whole)) (omega (arith, z, whole)) fits ∙ ap Ok (ap (λ t. rows_by t.counts bs) trailer ∙ rows)
+rows_come_back R s = decoding_laid bs fits ∙ ap Ok (ap (λ t. rows_by t.counts bs) trailer ∙ rows)
   where
     bs : List ℕ
     bs = capture R

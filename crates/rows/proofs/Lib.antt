@@ -1,6 +1,6 @@
 pub mod Writing
-mod Reading
-mod Saving
+pub mod Reading
+pub mod Saving
 mod Digits
 pub mod Layouts
 pub mod Most

@@ -6,6 +6,7 @@ ghost use Rattle.rows.specs.Tetrahedron.{tetrahedron as tetrahedron_rows};
 
 use crate::counts::Counts;
 use crate::ridge::RidgeRow;
+use crate::table::Table;
 use crate::tables::Tables;
 use vector::Vector;
 
@@ -14,59 +15,41 @@ impl Tables {
         ensures { result ≡ counts_of (rows_of self.now) }
     {
         Counts {
-            corners: self.corners().len(),
-            flats: self.flats().len(),
-            ridges: self.ridges().len(),
+            corners: self.corners.len(),
+            flats: self.flats.len(),
+            ridges: self.ridges.len(),
         }
     }
 
     pub fn corners(&self) -> &[Vector]
         ensures { result.now ≡ (rows_of self.now).corners }
     {
-        &self.corners[0..self.counts.corners]
+        self.corners.as_slice()
     }
 
     // The masks: bit k says that corner k lies in the flat.
     pub fn flats(&self) -> &[u32]
         ensures { result.now ≡ (rows_of self.now).flats }
     {
-        &self.flats[0..self.counts.flats]
+        self.flats.as_slice()
     }
 
     pub fn ridges(&self) -> &[RidgeRow]
         ensures { result.now ≡ (rows_of self.now).ridges }
     {
-        &self.ridges[0..self.counts.ridges]
+        self.ridges.as_slice()
     }
 
     // The tetrahedron with corners (0,0,0), (0,0,4), (0,4,0), (4,0,0).
     pub fn tetrahedron() -> Tables
         ensures { rows_of result ≡ tetrahedron_rows }
     {
-        let mut corners = [Vector::ZERO; 32];
-        corners[1] = Vector { x: 0, y: 0, z: 4 };
-        corners[2] = Vector { x: 0, y: 4, z: 0 };
-        corners[3] = Vector { x: 4, y: 0, z: 0 };
-        let mut flats = [0u32; 60];
-        flats[0] = 7;
-        flats[1] = 11;
-        flats[2] = 13;
-        flats[3] = 14;
-        let mut ridges = [RidgeRow { low: 0, high: 1 }; 90];
-        ridges[1] = RidgeRow { low: 0, high: 2 };
-        ridges[2] = RidgeRow { low: 0, high: 3 };
-        ridges[3] = RidgeRow { low: 1, high: 2 };
-        ridges[4] = RidgeRow { low: 1, high: 3 };
-        ridges[5] = RidgeRow { low: 2, high: 3 };
+        let corners = [(0, 0, 0), (0, 0, 4), (0, 4, 0), (4, 0, 0)];
+        let ridges = [(0, 1), (0, 2), (0, 3), (1, 2), (1, 3), (2, 3)];
         Tables {
-            counts: Counts {
-                corners: 4,
-                flats: 4,
-                ridges: 6,
-            },
-            corners,
-            flats,
-            ridges,
+            corners: Table::of(&corners.map(|(x, y, z)| Vector { x, y, z })),
+            flats: Table::of(&[0b0111, 0b1011, 0b1101, 0b1110]),
+            ridges: Table::of(&ridges.map(|(low, high)| RidgeRow { low, high })),
         }
     }
 }

@@ -1,5 +1,5 @@
 // How many corners, flats and ridges there are.
-#[derive(Clone, Copy, PartialEq, Eq, Debug)]
+#[derive(Clone, Copy, PartialEq, Eq, Hash, Debug)]
 pub struct Counts {
     pub corners: usize,
     pub flats: usize,

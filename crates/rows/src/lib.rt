@@ -2,11 +2,13 @@
 #![tactic(auto)]
 
 mod access;
+mod bytes;
 mod counts;
 mod decode;
 mod encode;
-mod fields;
 mod ridge;
+mod row;
+mod table;
 mod tables;
 mod trailer;
 

@@ -1,5 +1,5 @@
 // A ridge (an edge): the numbers of its two corners.
-#[derive(Clone, Copy, PartialEq, Eq, Debug)]
+#[derive(Clone, Copy, PartialEq, Eq, PartialOrd, Ord, Hash, Debug)]
 pub struct RidgeRow {
     pub low: u8,
     pub high: u8,

@@ -1,10 +1,13 @@
 // The trailer of a capture: counts, edition and distances back to the first row of each table.
-ghost use Rattle.std.specs.Prelude.{◌≡◌, ℕ, ◌+◌, ◌≤◌, length};
-ghost use Rattle.rows.specs.Bytes.{written};
+ghost use Rattle.std.specs.Prelude.{◌≡◌, ◌+◌, ◌≤◌, length, true};
+ghost use Rattle.rows.specs.Sizes.{sizes};
 ghost use Rattle.rows.specs.Trailers.{trailer_at, layout, trailer_bytes};
 
+use crate::bytes::u16_at;
 use crate::counts::Counts;
-use crate::fields::{put_u16, u16_at};
+use crate::ridge::RidgeRow;
+use crate::row::Row;
+use vector::Vector;
 
 #[derive(Clone, Copy)]
 pub(crate) struct Trailer {
@@ -41,20 +44,53 @@ impl Trailer {
         ensures { result ≡ layout len self }
     {
         let Counts {
-            corners: c,
-            flats: f,
-            ridges: r,
+            corners,
+            flats,
+            ridges,
         } = self.counts;
-        if !(4 <= c && c <= 32 && 4 <= f && f <= 60 && 6 <= r && r <= 90) {
+        let sized = (4..=32).contains(&corners)
+            && (4..=60).contains(&flats)
+            && (6..=90).contains(&ridges);
+        if !sized {
             return false;
         }
-        let ridges = 2 * r;
-        let flats = 4 * f + ridges;
-        let corners = 6 * c + flats;
+        let ridges = RidgeRow::WIDTH * ridges;
+        let flats = u32::WIDTH * flats + ridges;
+        let corners = Vector::WIDTH * corners + flats;
         self.edition == 1
             && len == corners + 10
             && self.back.corners == corners
             && self.back.flats == flats
             && self.back.ridges == ridges
     }
+}
+
+// The bytes of the trailer that belongs to these counts.
+pub(crate) fn trailer_bytes(counts: Counts) -> [u8; 10]
+    requires { sizes counts ≡ true }
+    ensures { result ≡ trailer_bytes counts }
+{
+    let Counts {
+        corners,
+        flats,
+        ridges,
+    } = counts;
+    let to_ridges = RidgeRow::WIDTH * ridges;
+    let to_flats = u32::WIDTH * flats + to_ridges;
+    let to_corners = Vector::WIDTH * corners + to_flats;
+    let [a, b] = (to_corners as u16).to_le_bytes();
+    let [c, d] = (to_flats as u16).to_le_bytes();
+    let [e, f] = (to_ridges as u16).to_le_bytes();
+    [
+        corners as u8,
+        flats as u8,
+        ridges as u8,
+        1,
+        a,
+        b,
+        c,
+        d,
+        e,
+        f,
+    ]
 }
