@@ -11,7 +11,7 @@ use Rattle.rows.specs.declared.counts.Counts.{Counts}
 use Rattle.rows.specs.declared.trailer.Trailer.{Trailer}
 use Rattle.rows.specs.Bytes.{u16_at, u32_at, four_bytes, in16}
 use Rattle.rows.specs.Fields.{corner_at, ridge_at, corner_bytes, ridge_bytes}
-use Rattle.rows.specs.Trailers.{trailer_at, trailer_bytes, layout}
+use Rattle.rows.specs.Trailers.{trailer_at, distances, trailer_bytes, layout}
 use Rattle.rows.specs.Captures.{counts, each, capture, rows_by, trailer_in}
 use Rattle.rows.specs.Back.{RowsComeBack}
 use Rattle.rows.proofs.Digits.{two_back, four_back, in16_below, coordinate_back}
@@ -44,11 +44,7 @@ trailer_from bs i = λ t. record {
 
 -- ---- the trailer that belongs to counts
 abbrev trailer_of : Counts → Trailer
-trailer_of n = record {
-  counts = n;
-  edition = 1;
-  back = record { corners = 6 * n.corners + 4 * n.flats + 2 * n.ridges; flats = 4 * n.flats + 2 * n.ridges; ridges = 2 * n.ridges };
-}
+trailer_of n = record { counts = n; edition = 1; back = distances n }
 
 -- ---- the first row, read back from its bytes
 corner_back : (v : Vector) → within 32767 v ≡ true → (rest : List ℕ) → corner_at (corner_bytes v ++ rest) 0 ≡ v
@@ -64,9 +60,9 @@ trailer_back n z = λ t. record {
   counts = n;
   edition = 1;
   back = record {
-    corners = two_back (trailer_of n).back.corners (omega arith) t;
-    flats = two_back (trailer_of n).back.flats (omega arith) t;
-    ridges = two_back (trailer_of n).back.ridges (omega arith) t;
+    corners = two_back (distances n).corners (omega arith) t;
+    flats = two_back (distances n).flats (omega arith) t;
+    ridges = two_back (distances n).ridges (omega arith) t;
   };
 }
 

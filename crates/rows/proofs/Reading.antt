@@ -1,17 +1,16 @@
 -- Rows read from a capture: one row more, and all of them where the capture is laid out as it should be.
-use Rattle.std.proofs.Common.{◌≡◌, ℕ, ◌+◌, ◌*◌, ◌<◌, true, cond, not, leb, List, [], ◌∷◌, ◌++◌, length, take, set, Ok, Err, sym, ap, ◌∙◌, zero-add, arith}
+use Rattle.std.proofs.Common.{◌≡◌, ℕ, ◌+◌, ◌*◌, ◌<◌, true, List, [], ◌∷◌, ◌++◌, length, take, set, Ok, sym, ap, ◌∙◌, zero-add, arith}
 use Rattle.std.proofs.lemmas.List.{take_more_set}
 use Rattle.std.proofs.lemmas.List.FromFn.{length-map-range_with_len, map-range_with_len_more}
-use Rattle.std.proofs.lemmas.Bool.{and_from, le-leb}
+use Rattle.std.proofs.lemmas.Bool.Decides.{nat_tests}
 use Rattle.vector.specs.declared.Vector.{Vector}
 use Rattle.rows.specs.declared.counts.Counts.{Counts}
 use Rattle.rows.specs.declared.ridge.RidgeRow.{RidgeRow}
 use Rattle.rows.specs.Bytes.{u32_at}
 use Rattle.rows.specs.Fields.{corner_at, ridge_at}
-use Rattle.rows.specs.Sizes.{from_to}
-use Rattle.rows.specs.Trailers.{size, layout}
+use Rattle.rows.specs.Trailers.{layout}
 use Rattle.rows.specs.Captures.{Rows, counts, each, trailer_in, rows_by, rows_in, decoding}
-use Rattle.rows.proofs.Layouts.{Sized, sized, laid}
+use Rattle.rows.proofs.Layouts.{sized, laid}
 
 pub each_more : {X : Type 0} (f : ℕ → X) (rows : List X) (k : ℕ) (x : X) → k < length rows → x ≡ f k → take k rows ≡ each k f → take (k + 1) (set rows k x) ≡ each (k + 1) f
 each_more f rows k x h e p = take_more_set rows k x h ∙ (λ i. p i ++ e i ∷ []) ∙ sym (map-range_with_len_more f 0 k k (omega arith))
@@ -44,13 +43,7 @@ rows_read bs n p q r e f =
 
 -- a layout that fits says that the length is allowed too
 pub decoding_laid : (bs : List ℕ) → layout (length bs) (trailer_in bs) ≡ true → decoding bs ≡ Ok (rows_in bs)
-decoding_laid bs l = (λ i. cond (not (range i)) (Err 1) (cond (not (l i)) (Err 2) (Ok (rows_in bs))))
-  where
-    whole : length bs ≡ size (trailer_in bs).counts
-    whole = (laid (length bs) (trailer_in bs) l).whole
-
-    z : Sized (trailer_in bs).counts
-    z = sized (trailer_in bs).counts (laid (length bs) (trailer_in bs) l).allowed
-
-    range : from_to 10 622 (length bs) ≡ true
-    range = and_from (leb 10 (length bs)) (leb (length bs) 622) (le-leb 10 (length bs) (omega (arith, whole, z))) (le-leb (length bs) 622 (omega (arith, whole, z)))
+decoding_laid bs l =
+    let fits = laid (length bs) (trailer_in bs) l in
+    let n = sized (trailer_in bs).counts fits.allowed in
+    grind (arith, nat_tests)

@@ -4,7 +4,7 @@ use Rattle.refusal.specs.declared.Refusal.{Refusal}
 use Rattle.refusal.specs.Numbers.{number_of}
 use Rattle.rows.specs.declared.tables.Tables.{Tables}
 use Rattle.rows.specs.Captures.{Rows}
-use Rattle.rows.specs.Tables.{held}
+use Rattle.rows.specs.Table.{held}
 
 abbrev pub rows_of : Tables → Rows
 rows_of t = record { corners = held t.corners; flats = held t.flats; ridges = held t.ridges }

@@ -1,7 +1,6 @@
 // Reading: from the bytes of a capture to its rows.
 ghost use Rattle.std.specs.Prelude.{◌≡◌, ◌+◌, ◌*◌, ◌≤◌, length, IfOk};
-ghost use Rattle.rows.specs.Captures.{each, decoding, capture};
-ghost use Rattle.rows.specs.Tables.{held};
+ghost use Rattle.rows.specs.Captures.{decoding, capture};
 ghost use Rattle.rows.specs.Meaning.{meant, rows_of};
 
 use crate::row::Row;

@@ -1,5 +1,5 @@
 // Rows of one kind in a place of fixed size: an array, and how many of its rows are used.
-ghost use Rattle.std.specs.Prelude.{◌≡◌, ◌+◌, ◌*◌, ◌≤◌, [], length, ⊤};
+ghost use Rattle.std.specs.Prelude.{◌≡◌, ◌+◌, ◌*◌, ◌≤◌, length, ⊤};
 
 use crate::row::Row;
 use std::alloc::AllocError;
@@ -24,17 +24,7 @@ impl<T: Copy, const N: usize> Clone for Table<T, N> {
 
 impl<T: Row, const N: usize> Table<T, N> {
     ghost use Rattle.rows.specs.Captures.{each};
-    ghost use Rattle.rows.specs.Tables.{held};
-
-    // No rows yet.
-    pub(crate) fn new() -> Self
-        ensures { held result ≡ [] }
-    {
-        Table {
-            rows: [T::BLANK; N],
-            len: 0,
-        }
-    }
+    ghost use Rattle.rows.specs.Table.{held};
 
     // These rows.
     pub(crate) fn of(rows: &[T]) -> Self
@@ -58,7 +48,7 @@ impl<T: Row, const N: usize> Table<T, N> {
     pub(crate) fn len(&self) -> usize
         ensures { result ≡ length (held self.now) }
     {
-        self.as_slice().len()
+        self.len
     }
 
     // The rows that stand one after the other from a place of some bytes on.

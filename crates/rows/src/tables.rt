@@ -1,7 +1,7 @@
 // The rows of a capture in memory, in the sizes that the format allows.
 ghost use Rattle.std.specs.Prelude.{◌≡◌, true, length};
 ghost use Rattle.rows.specs.Sizes.{sizes};
-ghost use Rattle.rows.specs.Tables.{held};
+ghost use Rattle.rows.specs.Table.{held};
 
 use crate::ridge::RidgeRow;
 use crate::table::Table;

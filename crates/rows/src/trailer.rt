@@ -1,7 +1,7 @@
 // The trailer of a capture: counts, edition and distances back to the first row of each table.
 ghost use Rattle.std.specs.Prelude.{◌≡◌, ◌+◌, ◌≤◌, length, true};
 ghost use Rattle.rows.specs.Sizes.{sizes};
-ghost use Rattle.rows.specs.Trailers.{trailer_at, layout, trailer_bytes};
+ghost use Rattle.rows.specs.Trailers.{trailer_at, distances, layout, trailer_bytes};
 
 use crate::bytes::u16_at;
 use crate::counts::Counts;
@@ -43,25 +43,26 @@ impl Trailer {
     pub(crate) fn fits(self, len: usize) -> bool
         ensures { result ≡ layout len self }
     {
-        let Counts {
-            corners,
-            flats,
-            ridges,
-        } = self.counts;
-        let sized = (4..=32).contains(&corners)
-            && (4..=60).contains(&flats)
-            && (6..=90).contains(&ridges);
-        if !sized {
+        if !self.counts.are_allowed() {
             return false;
         }
-        let ridges = RidgeRow::WIDTH * ridges;
-        let flats = u32::WIDTH * flats + ridges;
-        let corners = Vector::WIDTH * corners + flats;
-        self.edition == 1
-            && len == corners + 10
-            && self.back.corners == corners
-            && self.back.flats == flats
-            && self.back.ridges == ridges
+        let back = distances(self.counts);
+        self.edition == 1 && len == back.corners + 10 && self.back == back
+    }
+}
+
+// How far back from the trailer the first row of each table lies.
+fn distances(counts: Counts) -> Counts
+    requires { sizes counts ≡ true }
+    ensures { result ≡ distances counts }
+{
+    let ridges = RidgeRow::WIDTH * counts.ridges;
+    let flats = u32::WIDTH * counts.flats + ridges;
+    let corners = Vector::WIDTH * counts.corners + flats;
+    Counts {
+        corners,
+        flats,
+        ridges,
     }
 }
 
@@ -70,17 +71,15 @@ pub(crate) fn trailer_bytes(counts: Counts) -> [u8; 10]
     requires { sizes counts ≡ true }
     ensures { result ≡ trailer_bytes counts }
 {
+    let back = distances(counts);
+    let [a, b] = (back.corners as u16).to_le_bytes();
+    let [c, d] = (back.flats as u16).to_le_bytes();
+    let [e, f] = (back.ridges as u16).to_le_bytes();
     let Counts {
         corners,
         flats,
         ridges,
     } = counts;
-    let to_ridges = RidgeRow::WIDTH * ridges;
-    let to_flats = u32::WIDTH * flats + to_ridges;
-    let to_corners = Vector::WIDTH * corners + to_flats;
-    let [a, b] = (to_corners as u16).to_le_bytes();
-    let [c, d] = (to_flats as u16).to_le_bytes();
-    let [e, f] = (to_ridges as u16).to_le_bytes();
     [
         corners as u8,
         flats as u8,
