@@ -15,12 +15,9 @@ pub record Laid (len : ℕ) (t : Trailer) : Type 0 where
   pub to_flats : t.back.flats ≡ (distances t.counts).flats
   pub to_ridges : t.back.ridges ≡ (distances t.counts).ridges
 
--- a trailer that fits is laid out so, and the other way round
+-- a trailer that fits is laid out so
 pub laid : (len : ℕ) (t : Trailer) → layout len t ≡ true → Laid len t
 laid len t h = grind (arith, nat_tests)
-
-pub layout_laid : (len : ℕ) (t : Trailer) → Laid len t → layout len t ≡ true
-layout_laid len t l = grind (arith, nat_tests)
 
 -- the ranges of the counts
 pub record Sized (n : Counts) : Type 0 where
