@@ -1,5 +1,5 @@
 // Reading: from the bytes of a capture to its rows.
-ghost use Rattle.std.specs.Prelude.{◌≡◌, ◌+◌, ◌*◌, ◌≤◌, length, IfOk};
+ghost use Rattle.std.specs.Prelude.{◌≡◌, IfOk};
 ghost use Rattle.rows.specs.Captures.{decoding, capture};
 ghost use Rattle.rows.specs.Meaning.{meant, rows_of};
 

@@ -1,7 +1,6 @@
 // The rows of a capture, and the capture's bytes: corner rows, flat rows, ridge rows and a trailer.
 #![tactic(auto)]
 
-mod access;
 mod bytes;
 mod counts;
 mod decode;

@@ -22,14 +22,17 @@ pub(crate) trait Row: Copy {
     // The bytes of a row.
     ghost row_bytes: { Self → List ℕ };
 
+    // Reads the row at a place.
     fn read(bytes: &[u8], at: usize) -> Self
         requires { at + WIDTH ≤ length bytes.now }
         ensures { result ≡ row_at bytes.now at };
 
+    // Puts the row at a place of a buffer.
     fn put(self, buffer: &mut [u8], at: usize)
         requires { at + WIDTH ≤ length buffer.old }
         ensures { buffer.new ≡ written at (row_bytes self) buffer.old };
 
+    // Every row takes so many bytes.
     ghost wide: { (row : Self) → length (row_bytes row) ≡ WIDTH };
 }
 

@@ -4,13 +4,12 @@ ghost use Rattle.std.specs.Prelude.{◌≡◌, ◌+◌, ◌*◌, ◌≤◌, leng
 use crate::row::Row;
 use std::alloc::AllocError;
 
+#[derive(Copy)]
 pub(crate) struct Table<T, const N: usize> {
     rows: [T; N],
     len: usize,
     ghost fits: { len ≤ N },
 }
-
-impl<T: Copy, const N: usize> Copy for Table<T, N> {}
 
 impl<T: Copy, const N: usize> Clone for Table<T, N> {
     ghost is_clone = { λ old new. new ≡ old };
@@ -39,12 +38,14 @@ impl<T: Row, const N: usize> Table<T, N> {
         }
     }
 
+    // The rows, lent for reading.
     pub(crate) fn as_slice(&self) -> &[T]
         ensures { result.now ≡ held self.now }
     {
         &self.rows[..self.len]
     }
 
+    // How many rows there are.
     pub(crate) fn len(&self) -> usize
         ensures { result ≡ length (held self.now) }
     {

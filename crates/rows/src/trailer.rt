@@ -17,6 +17,7 @@ pub(crate) struct Trailer {
 }
 
 impl Trailer {
+    // The trailer that stands at a place.
     pub(crate) fn at(bytes: &[u8], at: usize) -> Trailer
         requires { at + 10 ≤ length bytes.now }
         ensures { result ≡ trailer_at bytes.now at }
