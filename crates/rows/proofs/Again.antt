@@ -1,43 +1,44 @@
 -- A capture that is laid out as its trailer says is the capture of its rows.
-use Rattle.std.proofs.Common.{◌≡◌, ℕ, zero, suc, ◌+◌, ◌-◌, ◌*◌, ◌<◌, ◌≤◌, true, List, [], ◌∷◌, ◌++◌, length, get_or, take, drop, sym, refl, ap, ◌∙◌, mul-suc, add-one, arith, take-add}
+use Rattle.std.proofs.Common.{◌≡◌, ℕ, zero, suc, ◌+◌, ◌-◌, ◌*◌, ◌<◌, ◌≤◌, true, List, [], ◌∷◌, ◌++◌, length, get_or, take, drop, sym, refl, ap, ◌∙◌, zero-add, mul-suc, add-one, arith, take-add}
 use Rattle.std.specs.List.{flat_map}
 use Rattle.std.proofs.lemmas.List.{drop_more, flat_map_more, take_all, length-drop, drop-drop, take-append-drop}
-use Rattle.std.proofs.lemmas.List.FromFn.{length-map-range_with_len, map-range_with_len_more}
+use Rattle.std.proofs.lemmas.List.FromFn.{map-range_with_len_more}
 use Rattle.rows.specs.declared.counts.Counts.{Counts}
 use Rattle.rows.specs.Bytes.{Bytes, u16_at, i16_at, u32_at, two_bytes, four_bytes, in16}
 use Rattle.rows.specs.Fields.{corner_at, ridge_at, corner_bytes, ridge_bytes}
-use Rattle.rows.specs.Captures.{each, rows_by, rows_in, trailer_in, capture, counts}
+use Rattle.rows.specs.Captures.{each, rows_in, trailer_in, capture, counts}
 use Rattle.rows.specs.Trailers.{trailer_at, layout, trailer_bytes}
 use Rattle.rows.proofs.Layouts.{Laid, laid}
-use Rattle.rows.proofs.Digits.{bytes_of_two, bytes_of_four, in16_back}
+use Rattle.rows.proofs.Reading.{counts_read}
+use Rattle.rows.proofs.Digits.{in16_back}
 
--- ---- parts of a list, element by element
+-- ---- parts of a list
+-- two bytes, and four, from a place on
 take_two : (bs : List ℕ) (i : ℕ) → i + 2 ≤ length bs → take 2 (drop i bs) ≡ get_or bs i 0 ∷ get_or bs (i + 1) 0 ∷ []
-take_two bs i h = ap (take 2) (drop_more bs i 0 (omega arith)) ∙ ap (λ t. get_or bs i 0 ∷ take 1 t) (drop_more bs (i + 1) 0 (omega arith))
+take_two bs i h = grind (arith, drop_more)
+
+take_four : (bs : List ℕ) (i : ℕ) → i + 4 ≤ length bs → take 4 (drop i bs) ≡ get_or bs i 0 ∷ get_or bs (i + 1) 0 ∷ get_or bs (i + 2) 0 ∷ get_or bs (i + 3) 0 ∷ []
+take_four bs i h = grind (arith, drop_more)
 
 -- a part, cut in two
 take_cut : (bs : List ℕ) (i j m n : ℕ) → i + m ≡ j → take (m + n) (drop i bs) ≡ take m (drop i bs) ++ take n (drop j bs)
-take_cut bs i j m n e = take-add m n (drop i bs) ∙ ap (λ t. take m (drop i bs) ++ take n t) (drop-drop m i bs ∙ ap (λ k. drop k bs) e)
+take_cut bs i j m n e = grind (arith, take-add, drop-drop)
 
-take_four : (bs : List ℕ) (i : ℕ) → i + 4 ≤ length bs → take 4 (drop i bs) ≡ get_or bs i 0 ∷ get_or bs (i + 1) 0 ∷ get_or bs (i + 2) 0 ∷ get_or bs (i + 3) 0 ∷ []
-take_four bs i h =
-    let e : i + 2 + 1 ≡ i + 3 = omega arith in
-    take_cut bs i (i + 2) 2 2 refl ∙ (λ k. take_two bs i (omega arith) k ++ take_two bs (i + 2) (omega arith) k)
-    ∙ ap (λ j. get_or bs i 0 ∷ get_or bs (i + 1) 0 ∷ get_or bs (i + 2) 0 ∷ get_or bs j 0 ∷ []) e
+-- all that follows a place, cut in two
+drop_cut : (bs : List ℕ) (i m j : ℕ) → i + m ≡ j → take m (drop i bs) ++ drop j bs ≡ drop i bs
+drop_cut bs i m j e = ap (λ k. take m (drop i bs) ++ drop k bs) (sym e) ∙ ap (λ t. take m (drop i bs) ++ t) (sym (drop-drop m i bs)) ∙ take-append-drop m (drop i bs)
 
--- ---- rows, one by one
+-- ---- what stands at a place is saved as the bytes that stand there
+-- a number of two bytes, and of four
 two_again : (bs : List ℕ) (i : ℕ) → Bytes bs → i + 2 ≤ length bs → two_bytes (u16_at bs i) ≡ take 2 (drop i bs)
-two_again bs i b h = bytes_of_two (get_or bs i 0) (get_or bs (i + 1) 0) (b i) (b (i + 1)) ∙ sym (take_two bs i h)
+two_again bs i b h = grind (arith, take_two, b i, b (i + 1))
 
 four_again : (bs : List ℕ) (i : ℕ) → Bytes bs → i + 4 ≤ length bs → four_bytes (u32_at bs i) ≡ take 4 (drop i bs)
-four_again bs i b h =
-    bytes_of_four (get_or bs i 0) (get_or bs (i + 1) 0) (get_or bs (i + 2) 0) (get_or bs (i + 3) 0) (b i) (b (i + 1)) (b (i + 2)) (b (i + 3)) ∙ sym (take_four bs i h)
+four_again bs i b h = grind (arith, take_four, b i, b (i + 1), b (i + 2), b (i + 3))
 
+-- a coordinate, a corner row and a ridge row
 coordinate_again : (bs : List ℕ) (i : ℕ) → Bytes bs → i + 2 ≤ length bs → two_bytes (in16 (i16_at bs i)) ≡ take 2 (drop i bs)
-coordinate_again bs i b h = ap two_bytes (in16_back (u16_at bs i) small) ∙ two_again bs i b h
-  where
-    small : u16_at bs i < 65536
-    small = omega (arith, b i, b (i + 1))
+coordinate_again bs i b h = grind (arith, two_again, in16_back, b i, b (i + 1))
 
 corner_again : (bs : List ℕ) (i : ℕ) → Bytes bs → i + 6 ≤ length bs → corner_bytes (corner_at bs i) ≡ take 6 (drop i bs)
 corner_again bs i b h =
@@ -48,11 +49,10 @@ corner_again bs i b h =
 ridge_again : (bs : List ℕ) (i : ℕ) → i + 2 ≤ length bs → ridge_bytes (ridge_at bs i) ≡ take 2 (drop i bs)
 ridge_again bs i h = sym (take_two bs i h)
 
--- ---- tables
 -- rows of one width that stand one after the other
 table_again : {X : Type 0} (w : X → List ℕ) (f : ℕ → X) (bs : List ℕ) (at width n : ℕ)
     → ((k : ℕ) → k < n → w (f k) ≡ take width (drop (at + width * k) bs)) → flat_map w (each n f) ≡ take (width * n) (drop at bs)
-table_again w f bs at width zero h = let e : width * 0 ≡ 0 = omega arith in ap (λ n. take n (drop at bs)) (sym e)
+table_again w f bs at width zero h = grind arith
 table_again w f bs at width (suc n) h =
     let e : width * n + width ≡ width * suc n = omega (arith, mul-suc width n) in
     ap (λ m. flat_map w (each m f)) (sym (add-one n))
@@ -62,7 +62,7 @@ table_again w f bs at width (suc n) h =
     ∙ sym (take_cut bs at (at + width * n) (width * n) width refl)
     ∙ ap (λ m. take m (drop at bs)) e
 
--- ---- the trailer
+-- the trailer
 trailer_again : (bs : List ℕ) (i : ℕ) → Bytes bs → i + 10 ≡ length bs → Laid (length bs) (trailer_at bs i) → trailer_bytes (trailer_at bs i).counts ≡ drop i bs
 trailer_again bs i b e l =
     (λ k. (get_or bs i 0 ∷ get_or bs (i + 1) 0 ∷ get_or bs (i + 2) 0 ∷ sym l.edition k ∷ []) ++ (distance (i + 4) l.to_corners (omega arith) k ++ (distance (i + 6) l.to_flats (omega arith) k ++ distance (i + 8) l.to_ridges (omega arith) k)))
@@ -74,15 +74,12 @@ trailer_again bs i b e l =
     distance : (j : ℕ) {n : ℕ} → u16_at bs j ≡ n → j + 2 ≤ length bs → two_bytes n ≡ take 2 (drop j bs)
     distance j p h = ap two_bytes (sym p) ∙ two_again bs j b h
 
--- ---- the whole
-pub counts_by : (n : Counts) (bs : List ℕ) → counts (rows_by n bs) ≡ n
-counts_by n bs = λ i. record { corners = length-map-range_with_len (λ k. corner_at bs (6 * k)) 0 n.corners i; flats = length-map-range_with_len (λ k. u32_at bs (6 * n.corners + 4 * k)) 0 n.flats i; ridges = length-map-range_with_len (λ k. ridge_at bs (6 * n.corners + 4 * n.flats + 2 * k)) 0 n.ridges i }
-
+-- ---- the whole capture
 pub again : (bs : List ℕ) → Bytes bs → layout (length bs) (trailer_in bs) ≡ true → capture (rows_in bs) ≡ bs
 again bs b h =
     (λ i. corners i ++ (flats i ++ (ridges i ++ trailer i)))
-    ∙ ap (λ t. take (6 * c) bs ++ (take (4 * f) (drop (6 * c) bs) ++ t)) (cut (6 * c + 4 * f) (2 * r) (length bs - 10) (omega (arith, whole)))
-    ∙ ap (λ t. take (6 * c) bs ++ t) (cut (6 * c) (4 * f) (6 * c + 4 * f) refl)
+    ∙ ap (λ t. take (6 * c) bs ++ (take (4 * f) (drop (6 * c) bs) ++ t)) (drop_cut bs (6 * c + 4 * f) (2 * r) (length bs - 10) (omega (arith, whole)))
+    ∙ ap (λ t. take (6 * c) bs ++ t) (drop_cut bs (6 * c) (4 * f) (6 * c + 4 * f) refl)
     ∙ take-append-drop (6 * c) bs
   where
     n : Counts
@@ -106,7 +103,7 @@ again bs b h =
     corners : flat_map corner_bytes (rows_in bs).corners ≡ take (6 * c) bs
     corners =
         table_again corner_bytes _ bs 0 6 c
-        (λ k h. corner_again bs (6 * k) b (omega (arith, whole)) ∙ (let e : 6 * k ≡ 0 + 6 * k = omega arith in ap (λ j. take 6 (drop j bs)) e))
+        (λ k h. corner_again bs (6 * k) b (omega (arith, whole)) ∙ ap (λ j. take 6 (drop j bs)) (sym (zero-add (6 * k))))
 
     flats : flat_map four_bytes (rows_in bs).flats ≡ take (4 * f) (drop (6 * c) bs)
     flats = table_again four_bytes _ bs (6 * c) 4 f (λ k h. four_again bs (6 * c + 4 * k) b (omega (arith, whole)))
@@ -115,7 +112,4 @@ again bs b h =
     ridges = table_again ridge_bytes _ bs (6 * c + 4 * f) 2 r (λ k h. ridge_again bs (6 * c + 4 * f + 2 * k) (omega (arith, whole)))
 
     trailer : trailer_bytes (counts (rows_in bs)) ≡ drop (length bs - 10) bs
-    trailer = ap trailer_bytes (counts_by n bs) ∙ trailer_again bs (length bs - 10) b (omega (arith, whole)) l
-
-    cut : (i m j : ℕ) → i + m ≡ j → take m (drop i bs) ++ drop j bs ≡ drop i bs
-    cut i m j e = ap (λ k. take m (drop i bs) ++ drop k bs) (sym e) ∙ ap (λ t. take m (drop i bs) ++ t) (sym (drop-drop m i bs)) ∙ take-append-drop m (drop i bs)
+    trailer = ap trailer_bytes (counts_read n _ _ _ refl refl refl) ∙ trailer_again bs (length bs - 10) b (omega (arith, whole)) l

@@ -1,78 +1,53 @@
 -- A capture says the rows that it was saved from.
-use Rattle.std.proofs.Common.{◌≡◌, ℕ, zero, suc, ◌+◌, ◌-◌, ◌*◌, ◌/◌, ◌%◌, ◌<◌, true, List, [], ◌∷◌, ◌++◌, length, get_or, drop, ℤ, Ok, sym, refl, ap, ◌∙◌, zero-add, mul-suc, arith, w16, to_z}
+use Rattle.std.proofs.Common.{◌≡◌, ℕ, zero, suc, ◌+◌, ◌-◌, ◌*◌, ◌<◌, true, List, [], ◌∷◌, ◌++◌, length, get_or, drop, Ok, sym, refl, ap, ◌∙◌, mul-suc, arith}
 use Rattle.std.specs.List.{flat_map, AllByRecursion}
 use Rattle.std.proofs.ByRecursion.{All-from_get_or}
 use Rattle.std.proofs.lemmas.List.{get_or-drop, drop_at, drop-drop, append_assoc}
 use Rattle.std.proofs.lemmas.List.FromFn.{fill_by_all}
+use Rattle.std.proofs.lemmas.Bool.Decides.{nat_tests}
 use Rattle.vector.specs.declared.Vector.{Vector}
-use Rattle.vector.specs.Vectors.{vector, 𝟎, inside, within}
+use Rattle.vector.specs.Vectors.{𝟎, within}
 use Rattle.vector.proofs.Bounds.{ranges}
 use Rattle.rows.specs.declared.counts.Counts.{Counts}
 use Rattle.rows.specs.declared.trailer.Trailer.{Trailer}
-use Rattle.rows.specs.Bytes.{u16_at, u32_at, four_bytes, in16}
+use Rattle.rows.specs.Bytes.{u32_at, four_bytes}
 use Rattle.rows.specs.Fields.{corner_at, ridge_at, corner_bytes, ridge_bytes}
-use Rattle.rows.specs.Trailers.{trailer_at, trailer_bytes, layout}
+use Rattle.rows.specs.Trailers.{trailer_at, distances, trailer_bytes, layout}
 use Rattle.rows.specs.Captures.{counts, each, capture, rows_by, trailer_in}
 use Rattle.rows.specs.Back.{RowsComeBack}
 use Rattle.rows.proofs.Digits.{two_back, four_back, in16_below, coordinate_back}
-use Rattle.rows.proofs.Layouts.{Sized, sized, layout_laid}
-use Rattle.rows.proofs.Reading.{decoding_laid, same_rows}
+use Rattle.rows.proofs.Layouts.{Sized, sized}
+use Rattle.rows.proofs.Reading.{corners_first, decoding_laid, same_rows}
 use Rattle.rows.proofs.Saving.{length-joined, length-capture}
 
 -- ---- a row at a place is the first row of what stands from there on
-from_place : (bs : List ℕ) (i j k : ℕ) → i + k ≡ j → get_or bs j 0 ≡ get_or (drop i bs) k 0
-from_place bs i j k e = ap (λ n. get_or bs n 0) (sym e) ∙ sym (get_or-drop i bs k 0)
-
-u16_from : (bs : List ℕ) (i j k : ℕ) → i + k ≡ j → u16_at bs j ≡ u16_at (drop i bs) k
-u16_from bs i j k e = λ t. from_place bs i j k e t + 256 * from_place bs i (j + 1) (k + 1) (omega arith) t
-
 corner_from : (bs : List ℕ) (i : ℕ) → corner_at bs i ≡ corner_at (drop i bs) 0
-corner_from bs i = λ t. vector (to_z w16 (u16_from bs i i 0 (omega arith) t)) (to_z w16 (u16_from bs i (i + 2) 2 refl t)) (to_z w16 (u16_from bs i (i + 4) 4 refl t))
+corner_from bs i = grind (arith, get_or-drop)
 
 flat_from : (bs : List ℕ) (i : ℕ) → u32_at bs i ≡ u32_at (drop i bs) 0
-flat_from bs i = λ t. from_place bs i i 0 (omega arith) t + 256 * (from_place bs i (i + 1) 1 refl t + 256 * (from_place bs i (i + 2) 2 refl t + 256 * from_place bs i (i + 3) 3 refl t))
+flat_from bs i = grind (arith, get_or-drop)
 
 ridge_from : (bs : List ℕ) (i : ℕ) → ridge_at bs i ≡ ridge_at (drop i bs) 0
-ridge_from bs i = λ t. record { low = from_place bs i i 0 (omega arith) t; high = from_place bs i (i + 1) 1 refl t }
+ridge_from bs i = grind (arith, get_or-drop)
 
 trailer_from : (bs : List ℕ) (i : ℕ) → trailer_at bs i ≡ trailer_at (drop i bs) 0
-trailer_from bs i = λ t. record {
-  counts = record { corners = from_place bs i i 0 (omega arith) t; flats = from_place bs i (i + 1) 1 refl t; ridges = from_place bs i (i + 2) 2 refl t };
-  edition = from_place bs i (i + 3) 3 refl t;
-  back = record { corners = u16_from bs i (i + 4) 4 refl t; flats = u16_from bs i (i + 6) 6 refl t; ridges = u16_from bs i (i + 8) 8 refl t };
-}
+trailer_from bs i = grind (arith, get_or-drop)
 
 -- ---- the trailer that belongs to counts
 abbrev trailer_of : Counts → Trailer
-trailer_of n = record {
-  counts = n;
-  edition = 1;
-  back = record { corners = 6 * n.corners + 4 * n.flats + 2 * n.ridges; flats = 4 * n.flats + 2 * n.ridges; ridges = 2 * n.ridges };
-}
+trailer_of n = record { counts = n; edition = 1; back = distances n }
 
 -- ---- the first row, read back from its bytes
 corner_back : (v : Vector) → within 32767 v ≡ true → (rest : List ℕ) → corner_at (corner_bytes v ++ rest) 0 ≡ v
-corner_back v h rest =
-    let r = ranges 32767 v h in
-    λ t. vector (part v.x r.at_x t) (part v.y r.at_y t) (part v.z r.at_z t)
-  where
-    part : (a : ℤ) → inside 32767 a ≡ true → to_z w16 (in16 a % 256 + 256 * (in16 a / 256 % 256)) ≡ a
-    part a h = ap (to_z w16) (two_back (in16 a) (in16_below a)) ∙ coordinate_back a h
+corner_back v h rest = let r = ranges 32767 v h in grind (arith, two_back, in16_below, coordinate_back)
 
 trailer_back : (n : Counts) → Sized n → trailer_at (trailer_bytes n) 0 ≡ trailer_of n
-trailer_back n z = λ t. record {
-  counts = n;
-  edition = 1;
-  back = record {
-    corners = two_back (trailer_of n).back.corners (omega arith) t;
-    flats = two_back (trailer_of n).back.flats (omega arith) t;
-    ridges = two_back (trailer_of n).back.ridges (omega arith) t;
-  };
-}
+trailer_back n z = grind arith
 
 -- ---- a table: w writes a row, r reads one, and P says which rows can be read back
 module _ {X : Type 0} (w : X → List ℕ) (width : ℕ) (wide : (x : X) → length (w x) ≡ width) (r : List ℕ → ℕ → X) (P : X → Type 0)
     (from : (bs : List ℕ) (i : ℕ) → r bs i ≡ r (drop i bs) 0) (back : (x : X) → P x → (rest : List ℕ) → r (w x ++ rest) 0 ≡ x) where
+  -- the row at each place
   row_back : (bs : List ℕ) (at : ℕ) (xs : List X) (rest : List ℕ) → drop at bs ≡ flat_map w xs ++ rest → AllByRecursion P xs
       → (k : ℕ) (d : X) → k < length xs → get_or xs k d ≡ r bs (at + width * k)
   row_back bs at [] rest e h k d l = absurd (omega arith)
@@ -89,9 +64,9 @@ module _ {X : Type 0} (w : X → List ℕ) (width : ℕ) (wide : (x : X) → len
       → each (length xs) (λ k. r bs (at + width * k)) ≡ xs
   table_back bs at xs rest e h d = sym (fill_by_all (λ k. r bs (at + width * k)) xs (length xs) d refl (λ k l. row_back bs at xs rest e h k d l))
 
--- ---- the whole
+-- ---- the whole capture
 pub rows_come_back : RowsComeBack
-rows_come_back R s = decoding_laid bs (omega (arith, z, whole)) (omega (arith, z, whole)) fits ∙ ap Ok (ap (λ t. rows_by t.counts bs) trailer ∙ rows)
+rows_come_back R s = decoding_laid bs fits ∙ ap Ok (ap (λ t. rows_by t.counts bs) trailer ∙ rows)
   where
     bs : List ℕ
     bs = capture R
@@ -130,12 +105,11 @@ rows_come_back R s = decoding_laid bs (omega (arith, z, whole)) (omega (arith, z
         ap (trailer_at bs) e ∙ trailer_from bs _ ∙ ap (λ t. trailer_at t 0) from_trailer ∙ trailer_back n z
 
     fits : layout (length bs) (trailer_in bs) ≡ true
-    fits = ap (layout (length bs)) trailer
-        ∙ layout_laid (length bs) (trailer_of n) record { allowed = s.allowed; edition = refl; whole = whole; to_corners = refl; to_flats = refl; to_ridges = refl }
+    fits = ap (layout (length bs)) trailer ∙ grind (arith, nat_tests, whole, s.allowed)
 
     corners : each n.corners (λ k. corner_at bs (6 * k)) ≡ R.corners
     corners =
-        (λ t. each n.corners (λ k. corner_at bs (sym (zero-add (6 * k)) t)))
+        sym (corners_first bs n.corners)
         ∙ table_back corner_bytes 6 (λ v. refl) corner_at _ corner_from corner_back bs 0 R.corners _ refl s.corners_fit 𝟎
 
     flats : each n.flats (λ k. u32_at bs (6 * n.corners + 4 * k)) ≡ R.flats

@@ -1,8 +1,8 @@
-pub mod Writing
+mod Writing
 mod Reading
 mod Saving
 mod Digits
 pub mod Layouts
 pub mod Most
-pub mod Again
+mod Again
 pub mod Back

@@ -3,6 +3,7 @@ pub mod Fields
 pub mod Sizes
 pub mod Trailers
 pub mod Captures
+pub mod Table
 pub mod Meaning
 pub mod Tetrahedron
 pub mod Back

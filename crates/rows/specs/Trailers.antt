@@ -16,6 +16,14 @@ trailer_at bs i = record {
 abbrev pub size : Counts → ℕ
 size n = 6 * n.corners + 4 * n.flats + 2 * n.ridges + 10
 
+-- how far back from the trailer the first row of each table lies
+abbrev pub distances : Counts → Counts
+distances n = record {
+  corners = 6 * n.corners + 4 * n.flats + 2 * n.ridges;
+  flats = 4 * n.flats + 2 * n.ridges;
+  ridges = 2 * n.ridges;
+}
+
 -- the counts are in their ranges, the edition is 1, the length is that of the rows and the trailer,
 -- and the distances lead from the trailer back to the first row of each table
 abbrev pub layout : ℕ → Trailer → Bool
@@ -23,11 +31,11 @@ layout len t =
     sizes t.counts
     && t.edition == 1
     && len == size t.counts
-    && t.back.corners == 6 * t.counts.corners + 4 * t.counts.flats + 2 * t.counts.ridges
-    && t.back.flats == 4 * t.counts.flats + 2 * t.counts.ridges
-    && t.back.ridges == 2 * t.counts.ridges
+    && t.back.corners == (distances t.counts).corners
+    && t.back.flats == (distances t.counts).flats
+    && t.back.ridges == (distances t.counts).ridges
 
 abbrev pub trailer_bytes : Counts → List ℕ
 trailer_bytes n =
     n.corners ∷ n.flats ∷ n.ridges ∷ 1 ∷
-    two_bytes (6 * n.corners + 4 * n.flats + 2 * n.ridges) ++ (two_bytes (4 * n.flats + 2 * n.ridges) ++ two_bytes (2 * n.ridges))
+    two_bytes (distances n).corners ++ (two_bytes (distances n).flats ++ two_bytes (distances n).ridges)

@@ -2,65 +2,28 @@
 ghost use Rattle.std.specs.Prelude.{◌≡◌, ◌+◌, ◌*◌, ◌≤◌, true, length};
 ghost use Rattle.std.specs.List.{flat_map};
 ghost use Rattle.refusal.specs.Numbers.{told};
-ghost use Rattle.rows.specs.Bytes.{four_bytes, written};
-ghost use Rattle.rows.specs.Fields.{corner_bytes, ridge_bytes};
+ghost use Rattle.rows.specs.Bytes.{written};
 ghost use Rattle.rows.specs.Sizes.{sizes};
-ghost use Rattle.rows.specs.Trailers.{trailer_bytes};
 ghost use Rattle.rows.specs.Captures.{saving, saved, counts as counts_of};
 ghost use Rattle.rows.specs.Meaning.{rows_of};
 ghost use Rattle.rows.specs.Back.{RowsComeBack};
 
-use crate::counts::Counts;
-use crate::fields::{put_corner, put_flat, put_ridge, put_u16};
+use crate::bytes::put;
 use crate::ridge::RidgeRow;
+use crate::row::Row;
 use crate::tables::Tables;
+use crate::trailer::trailer_bytes;
 use refusal::Refusal;
 use vector::Vector;
 
-// Corner rows, from a place on.
-fn put_corners(buffer: &mut [u8], at: usize, rows: &[Vector])
-    requires { at + 6 * length rows.now ≤ length buffer.old }
-    ensures { buffer.new ≡ written at (flat_map corner_bytes rows.now) buffer.old }
+// Rows one after the other, from a place on.
+fn put_rows<R: Row>(buffer: &mut [u8], at: usize, rows: &[R])
+    requires { at + R.WIDTH * length rows.now ≤ length buffer.old }
+    ensures { buffer.new ≡ written at (flat_map R.row_bytes rows.now) buffer.old }
 {
-    for k in 0..rows.len() {
-        put_corner(buffer, at + 6 * k, rows[k]);
+    for (k, row) in rows.iter().enumerate() {
+        row.put(buffer, at + R::WIDTH * k);
     }
-}
-
-// Flat rows, from a place on.
-fn put_flats(buffer: &mut [u8], at: usize, rows: &[u32])
-    requires { at + 4 * length rows.now ≤ length buffer.old }
-    ensures { buffer.new ≡ written at (flat_map four_bytes rows.now) buffer.old }
-{
-    for k in 0..rows.len() {
-        put_flat(buffer, at + 4 * k, rows[k]);
-    }
-}
-
-// Ridge rows, from a place on.
-fn put_ridges(buffer: &mut [u8], at: usize, rows: &[RidgeRow])
-    requires { at + 2 * length rows.now ≤ length buffer.old }
-    ensures { buffer.new ≡ written at (flat_map ridge_bytes rows.now) buffer.old }
-{
-    for k in 0..rows.len() {
-        put_ridge(buffer, at + 2 * k, rows[k]);
-    }
-}
-
-fn put_trailer(buffer: &mut [u8], at: usize, counts: Counts)
-    requires { (at + 10 ≤ length buffer.old) × (sizes counts ≡ true) }
-    ensures { buffer.new ≡ written at (trailer_bytes counts) buffer.old }
-{
-    let ridges = 2 * counts.ridges;
-    let flats = 4 * counts.flats + ridges;
-    let corners = 6 * counts.corners + flats;
-    buffer[at] = counts.corners as u8;
-    buffer[at + 1] = counts.flats as u8;
-    buffer[at + 2] = counts.ridges as u8;
-    buffer[at + 3] = 1;
-    put_u16(buffer, at + 4, corners as u16);
-    put_u16(buffer, at + 6, flats as u16);
-    put_u16(buffer, at + 8, ridges as u16);
 }
 
 impl Tables {
@@ -70,26 +33,24 @@ impl Tables {
         ensures bytes { buffer.new ≡ saved (rows_of self.now) buffer.old }
         ensures allowed { sizes (counts_of (rows_of self.now)) ≡ true }
     {
-        let counts = self.counts;
-        let corners = &self.corners[..counts.corners];
-        let flats = &self.flats[..counts.flats];
-        let ridges = &self.ridges[..counts.ridges];
-        let flats_at = 6 * counts.corners;
-        let ridges_at = flats_at + 4 * counts.flats;
-        let trailer_at = ridges_at + 2 * counts.ridges;
+        let counts = self.counts();
+        let flats_at = Vector::WIDTH * counts.corners;
+        let ridges_at = flats_at + u32::WIDTH * counts.flats;
+        let trailer_at = ridges_at + RidgeRow::WIDTH * counts.ridges;
         let len = trailer_at + 10;
         if buffer.len() < len {
             return Err(Refusal::NoRoom);
         }
-        put_corners(buffer, 0, corners);
-        put_flats(buffer, flats_at, flats);
-        put_ridges(buffer, ridges_at, ridges);
-        put_trailer(buffer, trailer_at, counts);
+        put_rows(buffer, 0, self.corners());
+        put_rows(buffer, flats_at, self.flats());
+        put_rows(buffer, ridges_at, self.ridges());
+        put(buffer, trailer_at, &trailer_bytes(counts));
         Ok(len)
     }
 }
 
 // A capture says the rows that it was saved from.
+#[tactic(auto, using(crate::proofs::Back::rows_come_back))]
 pub fn rows_come_back() -> u8
     ensures { RowsComeBack }
 {

@@ -1,12 +1,13 @@
 // The rows of a capture, and the capture's bytes: corner rows, flat rows, ridge rows and a trailer.
 #![tactic(auto)]
 
-mod access;
+mod bytes;
 mod counts;
 mod decode;
 mod encode;
-mod fields;
 mod ridge;
+mod row;
+mod table;
 mod tables;
 mod trailer;
 

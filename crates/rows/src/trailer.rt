@@ -1,10 +1,13 @@
 // The trailer of a capture: counts, edition and distances back to the first row of each table.
-ghost use Rattle.std.specs.Prelude.{◌≡◌, ℕ, ◌+◌, ◌≤◌, length};
-ghost use Rattle.rows.specs.Bytes.{written};
-ghost use Rattle.rows.specs.Trailers.{trailer_at, layout, trailer_bytes};
+ghost use Rattle.std.specs.Prelude.{◌≡◌, ◌+◌, ◌≤◌, length, true};
+ghost use Rattle.rows.specs.Sizes.{sizes};
+ghost use Rattle.rows.specs.Trailers.{trailer_at, distances, layout, trailer_bytes};
 
+use crate::bytes::u16_at;
 use crate::counts::Counts;
-use crate::fields::{put_u16, u16_at};
+use crate::ridge::RidgeRow;
+use crate::row::Row;
+use vector::Vector;
 
 #[derive(Clone, Copy)]
 pub(crate) struct Trailer {
@@ -14,6 +17,7 @@ pub(crate) struct Trailer {
 }
 
 impl Trailer {
+    // The trailer that stands at a place.
     pub(crate) fn at(bytes: &[u8], at: usize) -> Trailer
         requires { at + 10 ≤ length bytes.now }
         ensures { result ≡ trailer_at bytes.now at }
@@ -40,21 +44,53 @@ impl Trailer {
     pub(crate) fn fits(self, len: usize) -> bool
         ensures { result ≡ layout len self }
     {
-        let Counts {
-            corners: c,
-            flats: f,
-            ridges: r,
-        } = self.counts;
-        if !(4 <= c && c <= 32 && 4 <= f && f <= 60 && 6 <= r && r <= 90) {
+        if !self.counts.are_allowed() {
             return false;
         }
-        let ridges = 2 * r;
-        let flats = 4 * f + ridges;
-        let corners = 6 * c + flats;
-        self.edition == 1
-            && len == corners + 10
-            && self.back.corners == corners
-            && self.back.flats == flats
-            && self.back.ridges == ridges
+        let back = distances(self.counts);
+        self.edition == 1 && len == back.corners + 10 && self.back == back
     }
+}
+
+// How far back from the trailer the first row of each table lies.
+fn distances(counts: Counts) -> Counts
+    requires { sizes counts ≡ true }
+    ensures { result ≡ distances counts }
+{
+    let ridges = RidgeRow::WIDTH * counts.ridges;
+    let flats = u32::WIDTH * counts.flats + ridges;
+    let corners = Vector::WIDTH * counts.corners + flats;
+    Counts {
+        corners,
+        flats,
+        ridges,
+    }
+}
+
+// The bytes of the trailer that belongs to these counts.
+pub(crate) fn trailer_bytes(counts: Counts) -> [u8; 10]
+    requires { sizes counts ≡ true }
+    ensures { result ≡ trailer_bytes counts }
+{
+    let back = distances(counts);
+    let [a, b] = (back.corners as u16).to_le_bytes();
+    let [c, d] = (back.flats as u16).to_le_bytes();
+    let [e, f] = (back.ridges as u16).to_le_bytes();
+    let Counts {
+        corners,
+        flats,
+        ridges,
+    } = counts;
+    [
+        corners as u8,
+        flats as u8,
+        ridges as u8,
+        1,
+        a,
+        b,
+        c,
+        d,
+        e,
+        f,
+    ]
 }

@@ -1,15 +1,22 @@
-use Rattle.std.proofs.Common.{◌≡◌, true, length, Ok, sym, ap, ◌∙◌, arith}
+use Rattle.std.proofs.Common.{◌≡◌, true, length, Ok, sym, ap, ◌∙◌}
 use Rattle.rows.specs.Captures.{capture, rows_by, trailer_in}
+use Rattle.rows.specs.Sizes.{sizes}
 use Rattle.rows.specs.Trailers.{layout}
 use Rattle.rows.proofs.Again.{again}
-use Rattle.rows.proofs.Reading.{rows_read, decoding_laid}
+use Rattle.rows.proofs.Layouts.{laid}
+use Rattle.rows.proofs.Reading.{corners_first, same_rows, counts_read, decoding_laid}
 use Rattle.rows.proofs.tables.Tables.decode.Goals as goal
+
+pub invariant_of-result : goal.invariant_of-result
+invariant_of-result c =
+    let t = c.at-trailer.result in
+    let fits = laid (length c.args.bytes.now) t (sym c.fits.ensures ∙ c.if-not-fits.false) in
+    record { allowed = ap sizes (counts_read t.counts _ _ _ c.read.ensures c.read-2.ensures c.read-3.ensures) ∙ fits.allowed }
 
 pub returns : goal.returns
 returns c =
     let bs = c.args.bytes.now in
     let l : layout (length bs) (trailer_in bs) ≡ true = ap (layout (length bs)) (sym c.at-trailer.ensures) ∙ sym c.fits.ensures ∙ c.if-not-fits.false in
-    let n = c.at-trailer.result.counts in
-    let read = rows_read bs n c.read_corners-corners.ensures c.read_flats-flats.ensures c.read_ridges-ridges.ensures (omega arith) (omega arith) in
+    let read = same_rows (c.read.ensures ∙ corners_first bs c.at-trailer.result.counts.corners) c.read-2.ensures c.read-3.ensures in
     let e = read ∙ ap (λ t. rows_by t.counts bs) c.at-trailer.ensures in
-    record { answer = ap Ok e ∙ sym (decoding_laid bs (omega arith) (omega arith) l); again = ap capture e ∙ again bs (λ k. (c.type_inv.bytes k).fits) l }
+    record { answer = ap Ok e ∙ sym (decoding_laid bs l); again = ap capture e ∙ again bs (λ k. (c.type_inv.bytes k).fits) l }

@@ -1,22 +1,22 @@
-use Rattle.std.proofs.Common.{◌≤◌, length, ap, ◌∙◌, arith}
-use Rattle.rows.specs.Sizes.{sizes}
-use Rattle.rows.specs.Trailers.{size}
+use Rattle.std.proofs.Common.{sym}
 use Rattle.rows.specs.Meaning.{rows_of}
-use Rattle.rows.proofs.Saving.{counts_are, capture-written, no_room, saving_fits, saved_fits}
+use Rattle.rows.proofs.Saving.{no_room, room, all_written}
 use Rattle.rows.proofs.tables.Tables.encode.Goals as goal
 
 pub returns-then-buffer-len : goal.returns-then-buffer-len
 returns-then-buffer-len c =
     let t = c.args.self.now in
-    let e = counts_are (rows_of t) t.counts (omega arith) (omega arith) (omega arith) in
-    let p = no_room (rows_of t) t.counts c.args.buffer.now e (omega arith) in
-    record { answer = p.0; bytes = p.1; allowed = ap sizes e ∙ t.allowed }
+    let kept = no_room (rows_of t) c.counts-counts.result c.args.buffer.now (sym c.counts-counts.ensures) c.if-buffer-len.true in
+    record { answer = kept.0; bytes = kept.1; allowed = t.allowed }
 
 pub returns : goal.returns
 returns c =
     let t = c.args.self.now in
-    let b = c.args.buffer.now in
-    let e = counts_are (rows_of t) t.counts (omega arith) (omega arith) (omega arith) in
-    let l : size t.counts ≤ length b = omega arith in
-    let put = capture-written (rows_of t) t.counts e b l c.put_corners.ensures c.put_flats.ensures c.put_ridges.ensures c.put_trailer.ensures in
-    record { answer = saving_fits (rows_of t) t.counts b e l; bytes = put ∙ saved_fits (rows_of t) t.counts b e l; allowed = ap sizes e ∙ t.allowed }
+    let n = c.counts-counts.result in
+    let e = sym c.counts-counts.ensures in
+    let fits = c.if-buffer-len.false in
+    record {
+      answer = room (rows_of t) n c.args.buffer.now e fits;
+      bytes = all_written (rows_of t) n c.args.buffer.now e fits c.corners.ensures c.put_rows.ensures c.flats.ensures c.put_rows-2.ensures c.ridges.ensures c.put_rows-3.ensures c.trailer_bytes.ensures c.put.ensures;
+      allowed = t.allowed;
+    }

@@ -1,8 +1,0 @@
-use Rattle.std.proofs.Common.{◌≡◌, take}
-use Rattle.std.specs.List.{flat_map}
-use Rattle.rows.specs.Bytes.{written}
-use Rattle.rows.specs.Fields.{ridge_bytes}
-use Rattle.rows.proofs.encode.put_ridges.Given as goal
-
-abbrev pub invariant-loop-k : goal.invariant-loop-k
-invariant-loop-k l = l.buffer ≡ written l.at (flat_map ridge_bytes (take l.k l.rows)) l.initial.buffer
