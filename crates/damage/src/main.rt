@@ -42,7 +42,7 @@ fn note_changes(tally: &mut Tally, bytes: &mut [u8], at: usize) -> Result<(), Al
     Ok(())
 }
 
-// Every change of one byte.
+// Every change of one byte: by places, since all bytes are examined while one is changed.
 fn tried(heap: Global, bytes: &mut [u8]) -> Result<Tally, AllocError>
     ensures { bytes.new ≡ bytes.old }
 {
