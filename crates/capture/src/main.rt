@@ -5,32 +5,28 @@ ghost use Rattle.std.specs.Prelude.{◌≤◌, length, IfOk};
 
 use report::{examine, line, unreadable, usage};
 use std::fs::File;
-use std::io::Read;
+use std::io::{BufReader, Read};
 use std::{env, io};
 
-// Fills the buffer from a file's start, and says how many bytes came.
-fn first_bytes(rt: &HostRuntime, name: &str, buffer: &mut [u8]) -> io::Result<usize>
-    ensures { IfOk result (λ n. n ≤ length buffer.old) }
+// One byte more than any capture has, so that a longer file is refused without being read whole.
+const READ_LIMIT: usize = 623;
+
+// The bytes of a file from its start on, up to the limit.
+fn first_bytes(rt: &HostRuntime, name: &str) -> io::Result<Vec<u8>>
+    ensures { IfOk result (λ bytes. length bytes.items ≤ READ_LIMIT) }
 {
-    let mut file = File::open(rt, name)?;
-    let mut len = 0;
-    while len < buffer.len() {
-        let more = file.read(&mut buffer[len..])?;
-        if more == 0 {
-            break;
-        }
-        len += more;
-    }
-    Ok(len)
+    let file = File::open(rt, name)?;
+    BufReader::new(rt.alloc(), file)?
+        .bytes()
+        .take(READ_LIMIT)
+        .try_collect(rt.alloc())
 }
 
 // The line of one file.
 fn line_of(rt: &HostRuntime, name: &str) -> io::Result<String> {
     let heap = rt.alloc();
-    // one byte more than any capture has, so that a longer file is refused without reading it whole
-    let mut buffer = [0u8; 623];
-    match first_bytes(rt, name, &mut buffer) {
-        Ok(len) => Ok(line(heap, name, examine(&buffer[0..len]))?),
+    match first_bytes(rt, name) {
+        Ok(bytes) => Ok(line(heap, name, examine(&bytes))?),
         Err(cause) => {
             let why = cause.to_string(heap)?;
             Ok(unreadable(heap, name, why.as_str())?)
@@ -40,15 +36,12 @@ fn line_of(rt: &HostRuntime, name: &str) -> io::Result<String> {
 
 // A line for each file that is named.
 fn run(rt: &HostRuntime) -> anyhow::Result<()> {
-    let mut names = env::args(rt)?;
-    let _program = names.next();
-    let mut asked = false;
-    for name in names {
-        asked = true;
-        rt.println(line_of(rt, name.as_str())?)?;
-    }
-    if !asked {
+    let names = env::args(rt)?.skip(1);
+    if names.len() == 0 {
         rt.println(usage())?;
+    }
+    for name in names {
+        rt.println(line_of(rt, name.as_str())?)?;
     }
     Ok(())
 }

@@ -1,67 +1,64 @@
 // A trial of damaged captures: every capture that differs from a given one in a single byte gets an answer.
 #![tactic(auto)]
 
-ghost use Rattle.std.specs.Prelude.{◌≡◌, ℕ, ◌<◌, ◌≤◌, length};
+mod tally;
 
-use report::{Finding, examine};
+ghost use Rattle.std.specs.Prelude.{◌≡◌, ◌<◌, length, bit_xor, slice_index, slice_set};
+ghost use Rattle.refusal.specs.Numbers.{told};
+ghost use Rattle.solid.specs.Reading.{reading};
+ghost use Rattle.report.specs.Texts.{Found};
+
+use crate::tally::Tally;
+use refusal::Refusal;
+use report::{Accepted, examine};
+use std::alloc::{AllocError, Global};
 use std::{env, fs, io};
 
-// How many captures were accepted, at place 0, and refused by each number.
-type Tally = [usize; 10];
+// How a byte is changed: its lowest bit, its highest, all of them.
+const CHANGES: [u8; 3] = [1, 128, 255];
 
-// The place of an answer in the tally.
-fn place(finding: Finding) -> usize
-    ensures { result < 10 }
-{
-    match finding {
-        Finding::Accepted {
-            counts: _,
-            saved: _,
-            same: _,
-        } => 0,
-        // reading refuses by 1 to 8; any other number would be counted at the last place
-        Finding::Refused(cause) => usize::from(cause.number()).min(9),
-    }
-}
-
-// The answer to the bytes with one of them changed, which is then changed back.
-fn changed(bytes: &mut [u8], at: usize, change: u8) -> usize
+// What is found of the bytes with one of them changed, which is then changed back.
+fn changed(bytes: &mut [u8], at: usize, change: u8) -> Result<Accepted, Refusal>
     requires { at < length bytes.old }
-    ensures { result < 10 }
+    ensures finding { let damaged = slice_set bytes.old at (bit_xor (slice_index bytes.old at) change) in
+        told result ≡ Found (reading damaged) damaged }
+    ensures back { bytes.new ≡ bytes.old }
 {
-    bytes[at] ^= change;
-    let answer = place(examine(bytes));
-    bytes[at] ^= change;
-    answer
+    let kept = bytes[at];
+    bytes[at] = kept ^ change;
+    let finding = examine(bytes);
+    bytes[at] = kept;
+    finding
 }
 
-fn note(tally: &mut Tally, answer: usize)
-    requires { answer < 10 }
+// Notes what is found of each change of one byte.
+fn note_changes(tally: &mut Tally, bytes: &mut [u8], at: usize) -> Result<(), AllocError>
+    requires { at < length bytes.old }
+    ensures { bytes.new ≡ bytes.old }
 {
-    tally[answer] = tally[answer].saturating_add(1);
-}
-
-// Every change of one byte by each of three masks.
-fn tried(bytes: &mut [u8]) -> Tally {
-    let mut tally = [0usize; 10];
-    for at in 0..bytes.len() {
-        note(&mut tally, changed(bytes, at, 1));
-        note(&mut tally, changed(bytes, at, 128));
-        note(&mut tally, changed(bytes, at, 255));
+    for change in CHANGES {
+        tally.note(changed(bytes, at, change))?;
     }
-    tally
+    Ok(())
+}
+
+// Every change of one byte: by places, since all bytes are examined while one is changed.
+fn tried(heap: Global, bytes: &mut [u8]) -> Result<Tally, AllocError>
+    ensures { bytes.new ≡ bytes.old }
+{
+    let mut tally = Tally::new(heap);
+    for at in 0..bytes.len() {
+        note_changes(&mut tally, bytes, at)?;
+    }
+    Ok(tally)
 }
 
 fn main(rt: HostRuntime) -> io::Result<()> {
-    let mut names = env::args(&rt)?;
-    let _program = names.next();
-    for name in names {
+    for name in env::args(&rt)?.skip(1) {
         let mut bytes = fs::read(&rt, name.as_str())?;
-        let changes = bytes.len().saturating_mul(3);
-        let [a, b, c, d, e, f, g, h, i, _] = tried(&mut bytes);
-        println!(rt;
-            "{name}: {changes} changes: accepted {a}, refused 1: {b}, 2: {c}, 3: {d}, 4: {e}, 5: {f}, 6: {g}, 7: {h}, 8: {i}"
-        )?;
+        let changes = bytes.len().saturating_mul(CHANGES.len());
+        let tally = tried(rt.alloc(), &mut bytes)?;
+        println!(rt; "{name}: {changes} changes: {tally}")?;
     }
     Ok(())
 }

@@ -1,8 +1,8 @@
 // What is said of a capture file, a line each.
 #![tactic(auto)]
 
-mod finding;
+mod accepted;
 mod lines;
 
-pub use finding::Finding;
+pub use accepted::Accepted;
 pub use lines::{examine, line, unreadable, usage};
