@@ -28,8 +28,7 @@ pub fn flat_along<B: Sided>(body: &B, n: Vector) -> Result<Option<usize>, Refusa
         return Err(Refusal::OutOfRange);
     }
     for i in 0..count {
-        let f = body.flat(i)?;
-        if is_along(n, f) {
+        if is_along(n, body.flat(i)?) {
             return Ok(Some(i));
         }
     }

@@ -36,8 +36,7 @@ pub trait Body {
             greatest: first,
         };
         for i in 1..count {
-            let c = self.corner(i)?;
-            extent = extent.widened(c);
+            extent = extent.widened(self.corner(i)?);
         }
         Ok(extent)
     }

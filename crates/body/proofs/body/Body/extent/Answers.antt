@@ -6,4 +6,4 @@ loop-i-init g c = extent_begun (g.Self.Body.meaning c.args.self.now) (g.Self.Bod
 
 pub loop-i-preserved : goal.loop-i-preserved
 loop-i-preserved g c =
-    extent_turn (g.Self.Body.meaning c.args.self.now) (g.Self.Body.sound c.args.self.now) c.loop-i.i c.in_ok-c.c c.in_ok-c.ensures c.loop-i.extent c.loop-i.invariant c.widened-extent.result c.widened-extent.ensures c.loop-i.auto.i
+    extent_turn (g.Self.Body.meaning c.args.self.now) (g.Self.Body.sound c.args.self.now) c.loop-i.i c.in_ok-corner.field-0 c.in_ok-corner.ensures c.loop-i.extent c.loop-i.invariant c.widened-extent.result c.widened-extent.ensures c.loop-i.auto.i
