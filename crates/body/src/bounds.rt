@@ -1,8 +1,5 @@
 // The bounds of the subject, all inclusive. A distance is in steps of 0.01 mm.
 
-// How far a coordinate of a corner may be from 0.
-pub const REACH: u32 = 10_000;
-
 // How far a component of a shift may be from 0.
 pub const SHIFT: u32 = 20_000;
 

@@ -6,9 +6,8 @@ ghost use Rattle.vector.specs.Wrapped.{wrappedᵛ};
 ghost use Rattle.body.specs.Extents.{extent as made, widened as wider};
 ghost use Rattle.body.specs.Answers.{reached_answer};
 
-use crate::bounds::REACH;
 use refusal::Refusal;
-use vector::Vector;
+use vector::{REACH, Vector};
 
 // The least and the greatest of each coordinate of some corners (a bounding box).
 #[derive(Clone, Copy, PartialEq, Eq, Debug)]

@@ -8,154 +8,112 @@ ghost use Rattle.convex.specs.Examples.{Examples};
 
 // ---- Products of a direction with the corners of a list.
 // The greatest and the least product over a list are products of corners of it, and none is beyond them.
-pub fn products_are_reached() -> u8
+pub fn products_are_reached()
     ensures { ProductsAreReached }
-{
-    0
-}
+{}
 
 // ---- Proofs: a plane shows that two lists share no point, a mixture that they share one, and one of both always exists.
 // Two lists with a plane between them share no rational point.
-pub fn plane_is_proof() -> u8
+pub fn plane_is_proof()
     ensures { PlaneIsProof }
-{
-    0
-}
+{}
 
 // Two lists with an accepted mixture share a rational point.
-pub fn mixture_is_proof() -> u8
+pub fn mixture_is_proof()
     ensures { MixtureIsProof }
-{
-    0
-}
+{}
 
 // Two lists that share a rational point have a mixture.
-pub fn point_is_mixture() -> u8
+pub fn point_is_mixture()
     ensures { PointIsMixture }
-{
-    0
-}
+{}
 
 // A plane stands between two lists, or they share a rational point.
-pub fn direction_or_point() -> u8
+pub fn direction_or_point()
     ensures { DirectionOrPoint }
-{
-    0
-}
+{}
 
 // ---- Apart: a listed plane shows it.
 // A list is spanning, or some plane holds it.
-pub fn spanning_or_held() -> u8
+pub fn spanning_or_held()
     ensures { SpanningOrHeld }
-{
-    0
-}
+{}
 
 // A direction with no positive product tilts to a face with none, and stays strict where it was.
-pub fn direction_tilts_to_face() -> u8
+pub fn direction_tilts_to_face()
     ensures { DirectionTiltsToFace }
-{
-    0
-}
+{}
 
 // A shifted list keeps the two laws of flats and ridges.
-pub fn shift_keeps_laws() -> u8
+pub fn shift_keeps_laws()
     ensures { ShiftKeepsLaws }
-{
-    0
-}
+{}
 
 // A mirrored list keeps the two laws.
-pub fn mirror_keeps_laws() -> u8
+pub fn mirror_keeps_laws()
     ensures { MirrorKeepsLaws }
-{
-    0
-}
+{}
 
 // A sum keeps the two laws.
-pub fn sum_keeps_laws() -> u8
+pub fn sum_keeps_laws()
     ensures { SumKeepsLaws }
-{
-    0
-}
+{}
 
 // More flats and more ridges keep the two laws.
-pub fn more_keeps_laws() -> u8
+pub fn more_keeps_laws()
     ensures { MoreKeepsLaws }
-{
-    0
-}
+{}
 
 // Corners on one line keep the two laws with no flat and one ridge.
-pub fn line_keeps_laws() -> u8
+pub fn line_keeps_laws()
     ensures { LineKeepsLaws }
-{
-    0
-}
+{}
 
 // Where two lists share no point, one of the listed planes is accepted.
-pub fn planes_suffice() -> u8
+pub fn planes_suffice()
     ensures { PlanesSuffice }
-{
-    0
-}
+{}
 
 // Where they only touch, one of the listed planes has equal products.
-pub fn planes_touch() -> u8
+pub fn planes_touch()
     ensures { PlanesTouch }
-{
-    0
-}
+{}
 
 // ---- Meeting: five corners show it.
 // Where two lists share a point, some five corners yield a mixture.
-pub fn five_corners_suffice() -> u8
+pub fn five_corners_suffice()
     ensures { FiveCornersSuffice }
-{
-    0
-}
+{}
 
 // Five corners that yield a mixture are one, by their determinants.
-pub fn five_corners_mix() -> u8
+pub fn five_corners_mix()
     ensures { FiveCornersMix }
-{
-    0
-}
+{}
 
 // Of two sided lists, one of them spanning, a listed plane is accepted or five corners yield a mixture.
-pub fn plane_or_five() -> u8
+pub fn plane_or_five()
     ensures { PlaneOrFive }
-{
-    0
-}
+{}
 
 // ---- Ranges.
 // The determinants of corners within reach are weights within range.
-pub fn weights_fit() -> u8
+pub fn weights_fit()
     ensures { WeightsFit }
-{
-    0
-}
+{}
 
 // Ridges, flats and planes are within range.
-pub fn planes_fit() -> u8
+pub fn planes_fit()
     ensures { PlanesFit }
-{
-    0
-}
+{}
 
 // ---- Solids.
 // An edge lies in two faces, which share no corner off it, and in no third.
-pub fn edge_in_two_faces() -> u8
+pub fn edge_in_two_faces()
     ensures { EdgeInTwoFaces }
-{
-    0
-}
+{}
 
 // ---- Examples.
 // Cases of the theorems, most of them at T and a cube, with their numbers computed.
-pub fn examples_hold() -> u8
+pub fn examples_hold()
     ensures { Examples }
-{
-    0
-}
+{}

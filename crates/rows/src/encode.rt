@@ -51,8 +51,6 @@ impl Tables {
 
 // A capture says the rows that it was saved from.
 #[tactic(auto, using(crate::proofs::Back::rows_come_back))]
-pub fn rows_come_back() -> u8
+pub fn rows_come_back()
     ensures { RowsComeBack }
-{
-    0
-}
+{}

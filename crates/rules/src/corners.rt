@@ -5,10 +5,7 @@ ghost use Rattle.rules.specs.Tests.{each_next};
 ghost use Rattle.rules.specs.Rules.{in_reach, corner as corner_of};
 
 use crate::directions::Corner;
-use vector::Vector;
-
-// How far from the origin a coordinate may lie, in steps.
-const REACH: u32 = 10_000;
+use vector::{REACH, Vector};
 
 // Corner rows that are all within reach.
 #[derive(Clone, Copy)]

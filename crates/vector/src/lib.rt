@@ -8,6 +8,9 @@ ghost use Rattle.vector.specs.Vectors.{precedes as before};
 ghost use Rattle.vector.specs.Wrapped.{wrappedᵛ};
 ghost use Rattle.vector.specs.Laws.{Square};
 
+// How far a coordinate of a corner may be from 0, in steps.
+pub const REACH: u32 = 10_000;
+
 // Vectors compare by x, then y, then z.
 #[derive(Clone, Copy, PartialEq, Eq, PartialOrd, Ord, Hash, Debug)]
 pub struct Vector {
@@ -137,8 +140,6 @@ impl Vector {
 }
 
 // The cross product is at right angles to both of its factors.
-pub fn cross_is_square() -> u8
+pub fn cross_is_square()
     ensures { Square }
-{
-    0
-}
+{}
