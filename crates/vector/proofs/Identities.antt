@@ -81,6 +81,9 @@ dot-minus n p q = ring (env (n ∷ p ∷ q ∷ []) []) (vec 0 ·ₑ (vec 1 -ₑ 
 pub dot-plus : (n p q : Vector) → n · (p +ᵛ q) ≡ n · p +ℤ n · q
 dot-plus n p q = ring (env (n ∷ p ∷ q ∷ []) []) (vec 0 ·ₑ (vec 1 +ₑ vec 2)) (vec 0 ·ₑ vec 1 ⊕ vec 0 ·ₑ vec 2) refl
 
+pub dot-times : (k : ℤ) (n p : Vector) → n · (k ∗ p) ≡ k *ℤ (n · p)
+dot-times k n p = ring (env (n ∷ p ∷ []) (k ∷ [])) (vec 0 ·ₑ (var 6 ∗ₑ vec 1)) (var 6 ⊗ (vec 0 ·ₑ vec 1)) refl
+
 pub times-dot : (k : ℤ) (n p : Vector) → (k ∗ n) · p ≡ k *ℤ (n · p)
 times-dot k n p = ring (env (n ∷ p ∷ []) (k ∷ [])) ((var 6 ∗ₑ vec 0) ·ₑ vec 1) (var 6 ⊗ (vec 0 ·ₑ vec 1)) refl
 
@@ -136,6 +139,9 @@ cross_second u v = ring (env (u ∷ v ∷ []) []) ((vec 0 ⨯ₑ vec 1) ·ₑ ve
 -- the triple product
 pub triple : (n u v : Vector) → (n ⨯ u) · v ≡ n · (u ⨯ v)
 triple n u v = ring (env (n ∷ u ∷ v ∷ []) []) ((vec 0 ⨯ₑ vec 1) ·ₑ vec 2) (vec 0 ·ₑ (vec 1 ⨯ₑ vec 2)) refl
+
+pub cyclic : (n u v : Vector) → n · (u ⨯ v) ≡ u · (v ⨯ n)
+cyclic n u v = ring (env (n ∷ u ∷ v ∷ []) []) (vec 0 ·ₑ (vec 1 ⨯ₑ vec 2)) (vec 1 ·ₑ (vec 2 ⨯ₑ vec 0)) refl
 
 pub swapped : (u v : Vector) → u ⨯ v ≡ negᵛ (v ⨯ u)
 swapped u v = ringᵛ (env (u ∷ v ∷ []) []) (vec 0 ⨯ₑ vec 1) (negₑ (vec 1 ⨯ₑ vec 0)) refl refl refl

@@ -205,3 +205,47 @@ module _ (vs : List ℤ) where
 
   pub ring : (e f : Exp) → norm e ≡ norm f → eval vs e ≡ eval vs f
   ring e f h = sym (norm_is e) ∙ ap (value vs) h ∙ norm_is f
+
+-- ---- the expression of a number, found by `search`
+-- An element of `Quoted vs a` is an expression whose value at vs is a: `search quote` finds one. So `by_ring vs (search quote depth 30 fits 20000) refl`
+-- proves an equation of sums, products and negations of the members of vs and of numerals.
+pub data Member : List ℤ → ℤ → Type 0 where
+  first : {a : ℤ} {vs : List ℤ} → Member (a ∷ vs) a
+  later : {a b : ℤ} {vs : List ℤ} → Member vs a → Member (b ∷ vs) a
+
+pub data Quoted (vs : List ℤ) : ℤ → Type 0 where
+  quote_var : {a : ℤ} → Member vs a → Quoted vs a
+  quote_pos : (n : ℕ) → Quoted vs (pos n)
+  quote-neg : (n : ℕ) → Quoted vs (negsuc n)
+  quote-⊕ : {a b : ℤ} → Quoted vs a → Quoted vs b → Quoted vs (a +ℤ b)
+  quote-⊗ : {a b : ℤ} → Quoted vs a → Quoted vs b → Quoted vs (a *ℤ b)
+  quote-⊖ : {a : ℤ} → Quoted vs a → Quoted vs (neg_ℤ a)
+
+pub ruleset quote = (quote-⊕, quote-⊗, quote-⊖, first, later, quote_var, quote_pos, quote-neg)
+
+abbrev pub place : {vs : List ℤ} {a : ℤ} → Member vs a → ℕ
+place first = 0
+place (later p) = suc (place p)
+
+abbrev pub exp : {vs : List ℤ} {a : ℤ} → Quoted vs a → Exp
+exp (quote_var p) = var (place p)
+exp (quote_pos n) = num (pos n)
+exp (quote-neg n) = num (negsuc n)
+exp (quote-⊕ p q) = exp p ⊕ exp q
+exp (quote-⊗ p q) = exp p ⊗ exp q
+exp (quote-⊖ p) = neg (exp p)
+
+place_is : {vs : List ℤ} {a : ℤ} (p : Member vs a) → get_or vs (place p) (pos 0) ≡ a
+place_is first = refl
+place_is (later p) = place_is p
+
+exp_is : {vs : List ℤ} {a : ℤ} (q : Quoted vs a) → eval vs (exp q) ≡ a
+exp_is (quote_var p) = place_is p
+exp_is (quote_pos n) = refl
+exp_is (quote-neg n) = refl
+exp_is (quote-⊕ p q) = λ i. exp_is p i +ℤ exp_is q i
+exp_is (quote-⊗ p q) = λ i. exp_is p i *ℤ exp_is q i
+exp_is (quote-⊖ p) = ap neg_ℤ (exp_is p)
+
+pub by_ring : (vs : List ℤ) {a b : ℤ} (s : Quoted vs a × Quoted vs b) → norm (exp s.0) ≡ norm (exp s.1) → a ≡ b
+by_ring vs s h = sym (exp_is s.0) ∙ ring vs (exp s.0) (exp s.1) h ∙ exp_is s.1
