@@ -1,3 +1,4 @@
+mod Before
 pub mod Loops
 mod Bits
 mod Exact
