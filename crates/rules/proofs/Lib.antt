@@ -1,4 +1,3 @@
-mod Before
 pub mod Loops
 mod Bits
 mod Exact
