@@ -60,3 +60,6 @@ each_next-by_number r [] true h = refl
 each_next-by_number r [] false h = absurd (omega (arith, h.1))
 each_next-by_number r (x ∷ ys) true h = next_all r x ys (λ k d l. h k d (omega arith) ∙ ap (λ n. r (get_or (x ∷ ys) k d) (get_or (x ∷ ys) n d)) (add-one k))
 each_next-by_number r (x ∷ ys) false h = next_fails r x ys h.0 (omega (arith, h.1)) (λ d. h.2 d ∙ ap (λ n. r (get_or (x ∷ ys) h.0 d) (get_or (x ∷ ys) n d)) (add-one h.0))
+
+pub each_next-same : {X : Type 0} (r q : X → X → Bool) → ((x y : X) → r x y ≡ q x y) → (xs : List X) → each_next r xs ≡ each_next q xs
+each_next-same r q e xs = λ i. each_next (λ x y. e x y i) xs

@@ -5,6 +5,7 @@ ghost use Rattle.rules.specs.Tests.{each_next};
 ghost use Rattle.rules.specs.Rules.{in_reach, corner as corner_of};
 
 use crate::directions::Corner;
+use crate::rising::rise;
 use vector::{REACH, Vector};
 
 // Corner rows that are all within reach.
@@ -18,12 +19,6 @@ fn are_reached(rows: &[Vector]) -> bool
     ensures { result ≡ in_reach rows.now }
 {
     rows.iter().all(|c| c.is_within(REACH))
-}
-
-fn rise(rows: &[Vector]) -> bool
-    ensures { result ≡ each_next precedes rows.now }
-{
-    rows.is_sorted_by(|a, b| a.precedes(*b))
 }
 
 impl<'a> Corners<'a> {

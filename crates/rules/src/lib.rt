@@ -9,6 +9,7 @@ mod masks;
 mod order;
 mod planes;
 mod ridges;
+mod rising;
 
 pub use laws::{flats_face_out, ridges_join_corners};
 pub use order::{check, outward};

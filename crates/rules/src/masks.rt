@@ -1,10 +1,10 @@
 // Masks: bit k of a flat's mask says that corner k lies in it. Rule 4: they fit the corners and rise strictly.
-ghost use Rattle.std.specs.Prelude.{◌≡◌, ◌≤◌, nat_lt};
+ghost use Rattle.std.specs.Prelude.{◌≡◌, ◌≤◌};
 ghost use Rattle.std.specs.List.{list_all};
-ghost use Rattle.rules.specs.Tests.{each_next};
 ghost use Rattle.rules.specs.Masks.{lies as lies_in, lowest as lowest_in, next as next_in, holds as holds_ridge, share_two, meet_in};
 ghost use Rattle.rules.specs.Rules.{mask_fits, masks_fit};
 
+use crate::rising::rise;
 use rows::RidgeRow;
 
 // Whether corner k lies in the flat.
@@ -59,16 +59,10 @@ fn masks_hold(corners: usize, flats: &[u32]) -> bool
         .all(|f| u64::from(*f) < 1u64 << corners && f.count_ones() >= 3)
 }
 
-fn masks_rise(flats: &[u32]) -> bool
-    ensures { result ≡ each_next nat_lt flats.now }
-{
-    flats.is_sorted_by(|g, h| g < h)
-}
-
 // Rule 4.
 pub(crate) fn masks_fit(corners: usize, flats: &[u32]) -> bool
     requires { corners ≤ 32 }
     ensures { result ≡ masks_fit corners flats.now }
 {
-    masks_hold(corners, flats) && masks_rise(flats)
+    masks_hold(corners, flats) && rise(flats)
 }

@@ -1,11 +1,12 @@
 // Rule 7: each corner lies in at least three flats. Rule 8: the ridges listed are those in which two flats meet.
 ghost use Rattle.std.specs.Prelude.{◌≡◌, take};
 ghost use Rattle.std.specs.List.{list_all, list_any};
-ghost use Rattle.rules.specs.Tests.{every, each_next, each_two, some_two};
+ghost use Rattle.rules.specs.Tests.{every, each_two, some_two};
 ghost use Rattle.rules.specs.Masks.{meet_in as meet_at};
-ghost use Rattle.rules.specs.Rules.{is_tied, ridge_before, meeting_listed, ridges_fit};
+ghost use Rattle.rules.specs.Rules.{is_tied, meeting_listed, ridges_fit};
 
 use crate::masks::{holds, lies, meet_in, share_two};
+use crate::rising::rise;
 use rows::RidgeRow;
 
 // Whether corner k lies in at least three flats.
@@ -19,12 +20,6 @@ pub(crate) fn corners_tied(corners: usize, flats: &[u32]) -> bool
     ensures { result ≡ every corners (is_tied flats.now) }
 {
     (0..corners).all(|k| is_tied(flats, k))
-}
-
-fn ridges_rise(ridges: &[RidgeRow]) -> bool
-    ensures { result ≡ each_next ridge_before ridges.now }
-{
-    ridges.is_sorted_by(|d, e| d < e)
 }
 
 // Whether two flats meet in a listed ridge.
@@ -87,5 +82,5 @@ fn ridges_true(flats: &[u32], ridges: &[RidgeRow]) -> bool
 pub(crate) fn ridges_fit(flats: &[u32], ridges: &[RidgeRow]) -> bool
     ensures { result ≡ ridges_fit flats.now ridges.now }
 {
-    ridges_rise(ridges) && ridges_complete(flats, ridges) && ridges_true(flats, ridges)
+    rise(ridges) && ridges_complete(flats, ridges) && ridges_true(flats, ridges)
 }
