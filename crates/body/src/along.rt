@@ -27,6 +27,7 @@ pub fn flat_along<B: Sided>(body: &B, n: Vector) -> Result<Option<usize>, Refusa
     if !n.is_within(DIRECTION) {
         return Err(Refusal::OutOfRange);
     }
+    // by numbers: there is no slice to search, and each question may refuse, so a search would give options of results
     for i in 0..count {
         if is_along(n, body.flat(i)?) {
             return Ok(Some(i));

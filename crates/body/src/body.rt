@@ -35,6 +35,7 @@ pub trait Body {
             least: first,
             greatest: first,
         };
+        // by numbers: there is no slice to go over, and each question may refuse, which a fold says no plainer
         for i in 1..count {
             extent = extent.widened(self.corner(i)?);
         }
@@ -51,6 +52,7 @@ pub trait Body {
         }
         let mut best = 0;
         let mut top = self.corner(0)?;
+        // by numbers, as above; a fold would carry the pair of the best number and its corner
         for i in 1..count {
             let c = self.corner(i)?;
             if n.dot(top) < n.dot(c) {

@@ -8,7 +8,7 @@ use std::alloc::{AllocError, Global};
 use std::collections::BTreeMap;
 use std::fmt;
 
-// How many captures were accepted, and how many were refused by each number.
+// How many captures were accepted, and how many were refused by each number: the line that is printed goes by numbers.
 #[derive(Drop)]
 pub struct Tally {
     accepted: usize,

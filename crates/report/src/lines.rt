@@ -18,6 +18,7 @@ pub fn examine(bytes: &[u8]) -> Result<Accepted, Refusal>
 {
     let mut solid = Solid::new();
     solid.read(bytes)?;
+    // an array, since examining a capture must not run out of memory
     let mut buffer = [0u8; LONGEST];
     let saved = solid.save(&mut buffer)?;
     Ok(Accepted {

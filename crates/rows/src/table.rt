@@ -1,4 +1,4 @@
-// Rows of one kind in a place of fixed size: an array, and how many of its rows are used.
+// Rows of one kind in a place of fixed size: an array, and how many of its rows are used. No heap, so that want of memory cannot occur.
 ghost use Rattle.std.specs.Prelude.{◌≡◌, ◌+◌, ◌*◌, ◌≤◌, length, ⊤};
 
 use crate::row::Row;
@@ -11,6 +11,7 @@ pub(crate) struct Table<T, const N: usize> {
     ghost fits: { len ≤ N },
 }
 
+// By hand, since Clone cannot be derived for a generic struct with a ghost field.
 impl<T: Copy, const N: usize> Clone for Table<T, N> {
     ghost is_clone = { λ old new. new ≡ old };
 

@@ -40,7 +40,7 @@ impl<'a> Corners<'a> {
         self.rows.len()
     }
 
-    // Corner number k; the origin where there is none.
+    // Corner number k; the origin where there is none, as the rules have it, so that they need no option at each step.
     pub(crate) fn corner(self, k: usize) -> Corner
         ensures { result.at ≡ corner_of self.entry.rows.now k }
     {

@@ -21,7 +21,7 @@ fn lowest(from: usize, mask: u32) -> Option<usize>
     (from..32).find(|k| lies(*k, mask))
 }
 
-// That corner, or the first number that is no corner's and not below `from`.
+// That corner, or the first number that is no corner's and not below `from`: the rules take the origin for that one's place.
 pub(crate) fn next(from: usize, mask: u32) -> usize
     ensures { result ≡ next_in from mask }
 {

@@ -77,7 +77,7 @@ fn ridges_true(flats: &[u32], ridges: &[RidgeRow]) -> bool
     ridges.iter().all(|e| is_met(flats, *e))
 }
 
-// Rule 8.
+// Rule 8. The two tables stay two parameters: a struct of both would only be made here and taken apart again.
 #[tactic(auto, unfolding(crate::specs::Rules::ridges_fit))]
 pub(crate) fn ridges_fit(flats: &[u32], ridges: &[RidgeRow]) -> bool
     ensures { result ≡ ridges_fit flats.now ridges.now }

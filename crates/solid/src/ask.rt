@@ -34,7 +34,7 @@ impl Solid {
         self.tables.corners().get(k).copied()
     }
 
-    // Corner number k, within reach; the origin where there is none.
+    // Corner number k, within reach; the origin where there is none, as the definition of a ridge's vector has it.
     fn near(&self, k: usize) -> Vector
         ensures value { result ≡ corner_at (solid_rows self.now).corners k }
         ensures reach { within 10000 result ≡ true }

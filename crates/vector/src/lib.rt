@@ -110,7 +110,7 @@ impl Vector {
         self < v
     }
 
-    // Whether each component is at most that of v.
+    // Whether each component is at most that of v, which no derived order says.
     pub fn is_at_most(self, v: Vector) -> bool
         ensures { result ≡ at_most self v }
     {
