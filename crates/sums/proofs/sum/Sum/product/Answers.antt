@@ -1,5 +1,5 @@
 use Rattle.std.proofs.Common.{◌<◌, ◌≤◌, subst}
-use Rattle.sums.proofs.Flats.{product_past, no_row, product_even, product_odd}
+use Rattle.sums.proofs.Flats.{product_past, no_row, no_column, product_even, product_odd}
 use Rattle.sums.proofs.sum.Sum.product.Goals as goal
 
 pub returns-then-t-products : goal.returns-then-t-products
@@ -21,6 +21,16 @@ returns-in_err-u g c =
     let a = g.P.Sided.sides c.args.self.now.first in
     let b = g.Q.Sided.sides c.args.self.now.second in
     no_row m o s u a b c.args.l c.requires c.args.t (subst (λ n. c.args.t < n) c.products.ensures c.if-t-products.false) _ c.in_err-u.ensures.answer
+
+pub returns-in_err-v : goal.returns-in_err-v
+returns-in_err-v g c =
+    let m = g.P.Body.meaning c.args.self.now.first in
+    let o = g.Q.Body.meaning c.args.self.now.second in
+    let s = g.P.Body.sound c.args.self.now.first in
+    let u = g.Q.Body.sound c.args.self.now.second in
+    let a = g.P.Sided.sides c.args.self.now.first in
+    let b = g.Q.Sided.sides c.args.self.now.second in
+    no_column m o s u a b c.args.l c.requires c.args.t (subst (λ n. c.args.t < n) c.products.ensures c.if-t-products.false) _ c.in_err-v.ensures.answer
 
 pub returns-then-t-eq0 : goal.returns-then-t-eq0
 returns-then-t-eq0 g c =
