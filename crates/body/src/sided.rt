@@ -18,20 +18,24 @@ pub trait Sided: Body {
 
     // How many flats it has.
     fn flat_count(&self) -> Result<usize, Refusal>
-        ensures { told result ≡ flat_count_answer (Self.Body.meaning self.now) (sides self.now) };
+        ensures answer { told result ≡ flat_count_answer (Self.Body.meaning self.now) (sides self.now) }
+        ensures laws { Laws (Self.Body.meaning self.now) (sides self.now) };
 
     // Flat number i (the outer normal of a facet, or another direction).
     fn flat(&self, i: usize) -> Result<Vector, Refusal>
-        ensures { told result ≡ flat_answer (Self.Body.meaning self.now) (sides self.now) i };
+        ensures answer { told result ≡ flat_answer (Self.Body.meaning self.now) (sides self.now) i }
+        ensures laws { Laws (Self.Body.meaning self.now) (sides self.now) };
 
     // How many ridges it has.
     fn ridge_count(&self) -> Result<usize, Refusal>
-        ensures { told result ≡ ridge_count_answer (Self.Body.meaning self.now) (sides self.now) };
+        ensures answer { told result ≡ ridge_count_answer (Self.Body.meaning self.now) (sides self.now) }
+        ensures laws { Laws (Self.Body.meaning self.now) (sides self.now) };
 
     // Ridge number i (the direction of an edge, or another vector).
     fn ridge(&self, i: usize) -> Result<Vector, Refusal>
-        ensures { told result ≡ ridge_answer (Self.Body.meaning self.now) (sides self.now) i };
+        ensures answer { told result ≡ ridge_answer (Self.Body.meaning self.now) (sides self.now) i }
+        ensures laws { Laws (Self.Body.meaning self.now) (sides self.now) };
 
-    // its flats and ridges keep the two laws over its corners
+    // its flats and ridges keep the two laws over its corners; each clause `laws` says the same, so that whoever asks is told
     ghost lawful: { (s : Self) → Laws (Self.Body.meaning s) (sides s) };
 }

@@ -35,6 +35,7 @@ impl<B: Body> Body for Mirrored<B> {
     }
 }
 
+#[tactic(auto, using(crate::specs::Sound::mirror_lawful))]
 impl<B: Sided> Sided for Mirrored<B> {
     ghost sides = { λ s. mirror_sides (B.Sided.sides s.body) };
 

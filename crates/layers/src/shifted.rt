@@ -55,6 +55,7 @@ impl<B: Body> Body for Shifted<B> {
     }
 }
 
+#[tactic(auto, using(crate::specs::Sound::shift_lawful))]
 impl<B: Sided> Sided for Shifted<B> {
     ghost sides = { λ s. B.Sided.sides s.body };
 

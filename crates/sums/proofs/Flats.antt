@@ -1,5 +1,5 @@
 -- What the sum of two sided bodies answers on its flats and ridges, from the answers of the parts.
-use Rattle.std.proofs.Common.{◌≡◌, ℕ, ◌+◌, ◌-◌, ◌*◌, ◌/◌, ◌%◌, ◌<◌, ◌≤◌, true, cond, ◌&&◌, leb, List, ◌++◌, length, get_or, Ok, Err, sym, refl, ap, ◌∙◌, subst, inl, inr, arith}
+use Rattle.std.proofs.Common.{◌≡◌, ℕ, ◌+◌, ◌-◌, ◌*◌, ◌/◌, ◌%◌, ◌<◌, ◌≤◌, true, cond, ◌&&◌, leb, List, ◌++◌, length, get_or, Ok, Err, Result, sym, refl, ap, ◌∙◌, subst, inl, inr, arith}
 use Rattle.std.proofs.lemmas.List.{length-append}
 use Rattle.std.proofs.lemmas.Bool.{cond-true, cond-false, cases_Bool}
 use Rattle.vector.specs.declared.Vector.{Vector}
@@ -15,7 +15,7 @@ use Rattle.body.proofs.Numbered.{no_ok, same_ok, numbered_past, numbered_left, n
 use Rattle.sums.specs.declared.listing.Counts.{Counts}
 use Rattle.sums.specs.declared.listing.Listing.{Listing}
 use Rattle.sums.specs.Sums.{sum_meaning, sum_sides, counts_of, counts_answer, listing_answer, product_count, flat_count, ridge_count, is_few, product_answer}
-use Rattle.sums.proofs.Numbering.{row_below, half, numbered_product, numbered_opposite}
+use Rattle.sums.proofs.Numbering.{row_below, column_below, half, numbered_product, numbered_opposite}
 use Rattle.sums.proofs.Corners.{Told, fit_told}
 
 -- ---- what the counts of a part tell
@@ -81,6 +81,27 @@ lists_told (corners cs) (listed fs rs) (listed gs ts) l h =
       }
       | inr e ↦ no_ok l 16 (h ∙ cond-false few (Ok all) (Err 16) e)
     ]
+
+-- a sum that does not list its own refuses each question on flats and ridges alike
+pub no_listing : {A : Type 0} (ask : Meaning → Sides → Result A ℕ) → ((s : Sides) → ask unfit s ≡ Err 13) → ((cs : List Vector) → ask (corners cs) unlisted ≡ Err 16)
+    → (m : Meaning) (a b : Sides) (e : ℕ) → Err e ≡ listing_answer m a b → Err e ≡ ask m (sum_sides a b)
+no_listing {A} ask no_body no_sides m a b e h = go m a b h
+  where
+    same : (n : ℕ) → ◌≡◌ {A = Result Listing ℕ} (Err e) (Err n) → ◌≡◌ {A = Result A ℕ} (Err e) (Err n)
+    same n p = let q : e ≡ n = cc in ap Err q
+
+    go : (m : Meaning) (a b : Sides) → Err e ≡ listing_answer m a b → Err e ≡ ask m (sum_sides a b)
+    go unfit a b h = same 13 h ∙ sym (no_body (sum_sides a b))
+    go (corners cs) unlisted b h = same 16 h ∙ sym (no_sides cs)
+    go (corners cs) (listed fs rs) unlisted h = same 16 h ∙ sym (no_sides cs)
+    go (corners cs) (listed fs rs) (listed gs ts) h =
+        let few = leb (length (sum_flats fs rs gs ts)) 20000 && leb (length (rs ++ ts)) 1000 in
+        let all = listing (counts_of fs rs) (counts_of gs ts) in
+        let F = sum_flats fs rs gs ts in
+        elim (cases_Bool few) [
+          | inl t ↦ no_ok all e (sym (h ∙ cond-true few (Ok all) (Err 16) t))
+          | inr f ↦ same 16 (h ∙ cond-false few (Ok all) (Err 16) f) ∙ sym (ap (ask (corners cs)) (cond-false few (listed F (rs ++ ts)) unlisted f) ∙ no_sides cs)
+        ]
 
 -- and a sum that lists its own is fit
 pub told_by_listing : (m o : Meaning) → Sound m → Sound o → (a b : Sides) (l : Listing) → Ok l ≡ listing_answer (sum_meaning m o) a b → Told m o
@@ -153,6 +174,14 @@ module _ (m o : Meaning) (s : Sound m) (s' : Sound o) (a b : Sides) (l : Listing
         arith,
         (told_past k.rs (n / 2 / length k.ts) e (q ∙ (λ x. ridge_answer (t.first.is x) (k.first x) (n / 2 / (k.counts x).second.ridges)))).0,
         row_below (length k.rs) (length k.ts) (n / 2) (half k.rs k.ts n below),
+      ))
+
+      -- and that of the column
+      pub no_column : {Z : Type 0} (e : ℕ) → Err e ≡ ridge_answer o b (n / 2 % l.second.ridges) → Z
+      no_column e q = absurd (omega (
+        arith,
+        (told_past k.ts (n / 2 % length k.ts) e (q ∙ (λ x. ridge_answer (t.second.is x) (k.second x) (n / 2 % (k.counts x).second.ridges)))).0,
+        column_below (length k.rs) (length k.ts) (n / 2) (half k.rs k.ts n below),
       ))
 
       module _ (f : Bounded a) (g : Bounded b) (u v w : Vector) (p : Ok u ≡ ridge_answer m a (n / 2 / l.second.ridges)) (q : Ok v ≡ ridge_answer o b (n / 2 % l.second.ridges)) (c : w ≡ wrappedᵛ (u ⨯ v)) where

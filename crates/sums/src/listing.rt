@@ -1,6 +1,7 @@
 // How many flats and ridges the two parts of a sum list.
 ghost use Rattle.std.specs.Prelude.{◌≡◌, ◌<◌, ◌^◌};
 ghost use Rattle.refusal.specs.Numbers.{told};
+ghost use Rattle.body.specs.Sides.{Laws};
 ghost use Rattle.sums.specs.Sums.{counts_answer, product_count, flat_count, ridge_count, is_few};
 
 use body::{MOST_FLATS, MOST_RIDGES, Sided};
@@ -57,7 +58,8 @@ impl Listing {
 
 // How many flats and ridges a body lists.
 pub(crate) fn counts_of<B: Sided>(body: &B) -> Result<Counts, Refusal>
-    ensures { told result ≡ counts_answer (B.Body.meaning body.now) (B.Sided.sides body.now) }
+    ensures answer { told result ≡ counts_answer (B.Body.meaning body.now) (B.Sided.sides body.now) }
+    ensures laws { Laws (B.Body.meaning body.now) (B.Sided.sides body.now) }
 {
     let flats = body.flat_count()?;
     let ridges = body.ridge_count()?;

@@ -1,6 +1,7 @@
 // The sum of two bodies: each point of the first plus each point of the second (the Minkowski sum).
 ghost use Rattle.std.specs.Prelude.{◌≡◌, Ok as Told};
 ghost use Rattle.refusal.specs.Numbers.{told};
+ghost use Rattle.body.specs.Sides.{Laws};
 ghost use Rattle.sums.specs.Sums.{sum_meaning, sum_sides, listing_answer, product_answer};
 ghost use Rattle.sums.specs.Sound.{sum_sound, sum_bounded, sum_lawful};
 
@@ -63,8 +64,10 @@ impl<P: Body, Q: Body> Body for Sum<P, Q> {
 
 impl<P: Sided, Q: Sided> Sum<P, Q> {
     // What the parts list, if the sum is fit and lists its own.
+    #[tactic(auto, using(crate::specs::Sound::sum_lawful))]
     fn listing(&self) -> Result<Listing, Refusal>
-        ensures { told result ≡ listing_answer (sum_meaning (P.Body.meaning self.now.first) (Q.Body.meaning self.now.second)) (P.Sided.sides self.now.first) (Q.Sided.sides self.now.second) }
+        ensures answer { told result ≡ listing_answer (sum_meaning (P.Body.meaning self.now.first) (Q.Body.meaning self.now.second)) (P.Sided.sides self.now.first) (Q.Sided.sides self.now.second) }
+        ensures laws { Laws (sum_meaning (P.Body.meaning self.now.first) (Q.Body.meaning self.now.second)) (sum_sides (P.Sided.sides self.now.first) (Q.Sided.sides self.now.second)) }
     {
         self.extent()?;
         let first = counts_of(&self.first)?;

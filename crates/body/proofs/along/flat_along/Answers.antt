@@ -8,14 +8,14 @@ is_along-requires-clause-f g c =
     let m = g.B.Body.meaning c.args.body.now in
     let s = g.B.Sided.sides c.args.body.now in
     let near = sym c.is_within.ensures ∙ c.if-not-is_within.false in
-    flat_near m s c.args.n c.in_ok-count.count c.in_ok-count.ensures near c.loop-i.i c.loop-i-test.true c.loop-i.invariant (g.B.Sided.bounded c.args.body.now) c.in_ok-flat.field-0 c.in_ok-flat.ensures
+    flat_near m s c.args.n c.in_ok-count.count c.in_ok-count.ensures.answer near c.loop-i.i c.loop-i-test.true c.loop-i.invariant (g.B.Sided.bounded c.args.body.now) c.in_ok-flat.field-0 c.in_ok-flat.ensures.answer
 
 pub returns-then-is_along : goal.returns-then-is_along
 returns-then-is_along g c =
     let m = g.B.Body.meaning c.args.body.now in
     let s = g.B.Sided.sides c.args.body.now in
     let near = sym c.is_within.ensures ∙ c.if-not-is_within.false in
-    let e = flat_found m s c.args.n c.in_ok-count.count c.in_ok-count.ensures near c.loop-i.i c.loop-i-test.true c.loop-i.invariant c.in_ok-flat.field-0 c.in_ok-flat.ensures (sym c.is_along.ensures ∙ c.if-is_along.true) in
+    let e = flat_found m s c.args.n c.in_ok-count.count c.in_ok-count.ensures.answer near c.loop-i.i c.loop-i-test.true c.loop-i.invariant c.in_ok-flat.field-0 c.in_ok-flat.ensures.answer (sym c.is_along.ensures ∙ c.if-is_along.true) in
     record { answer = e; says = subst (Says m s c.args.n) (sym e) (answer_says m s c.args.n (g.met.B.Sided.lawful c.args.body.now)) }
 
 pub returns : goal.returns
@@ -24,5 +24,5 @@ returns g c =
     let s = g.B.Sided.sides c.args.body.now in
     let near = sym c.is_within.ensures ∙ c.if-not-is_within.false in
     let end : c.in_ok-count.count ≤ c.loop-i.i = omega (arith, c.loop-i-test.false) in
-    let e = all_passed m s c.args.n c.in_ok-count.count c.in_ok-count.ensures near c.loop-i.i end c.loop-i.invariant in
+    let e = all_passed m s c.args.n c.in_ok-count.count c.in_ok-count.ensures.answer near c.loop-i.i end c.loop-i.invariant in
     record { answer = e; says = subst (Says m s c.args.n) (sym e) (answer_says m s c.args.n (g.met.B.Sided.lawful c.args.body.now)) }

@@ -4,8 +4,8 @@ use Rattle.sums.proofs.Corners.{told_by_extent}
 use Rattle.sums.proofs.Flats.{listing_is}
 use Rattle.sums.proofs.sum.Sum.listing.Goals as goal
 
-pub returns-then-not-is_few : goal.returns-then-not-is_few
-returns-then-not-is_few g c =
+pub returns-then-not-is_few-clause-answer : goal.returns-then-not-is_few-clause-answer
+returns-then-not-is_few-clause-answer g c =
     let m = g.P.Body.meaning c.args.self.now.first in
     let o = g.Q.Body.meaning c.args.self.now.second in
     let s = g.P.Body.sound c.args.self.now.first in
@@ -13,11 +13,11 @@ returns-then-not-is_few g c =
     let a = g.P.Sided.sides c.args.self.now.first in
     let b = g.Q.Sided.sides c.args.self.now.second in
     let t = told_by_extent m o s u c.in_ok-extent.field-0 c.in_ok-extent.ensures in
-    let e = listing_is m o t a b c.in_ok-first.first c.in_ok-second.second c.in_ok-first.ensures c.in_ok-second.ensures in
+    let e = listing_is m o t a b c.in_ok-first.first c.in_ok-second.second c.in_ok-first.ensures.answer c.in_ok-second.ensures.answer in
     sym (e ∙ cond-false _ _ (Err 16) (sym c.is_few.ensures ∙ c.if-not-is_few.true))
 
-pub returns : goal.returns
-returns g c =
+pub returns-clause-answer : goal.returns-clause-answer
+returns-clause-answer g c =
     let m = g.P.Body.meaning c.args.self.now.first in
     let o = g.Q.Body.meaning c.args.self.now.second in
     let s = g.P.Body.sound c.args.self.now.first in
@@ -25,5 +25,5 @@ returns g c =
     let a = g.P.Sided.sides c.args.self.now.first in
     let b = g.Q.Sided.sides c.args.self.now.second in
     let t = told_by_extent m o s u c.in_ok-extent.field-0 c.in_ok-extent.ensures in
-    let e = listing_is m o t a b c.in_ok-first.first c.in_ok-second.second c.in_ok-first.ensures c.in_ok-second.ensures in
+    let e = listing_is m o t a b c.in_ok-first.first c.in_ok-second.second c.in_ok-first.ensures.answer c.in_ok-second.ensures.answer in
     sym (e ∙ cond-true _ _ (Err 16) (sym c.is_few.ensures ∙ c.if-not-is_few.false))
