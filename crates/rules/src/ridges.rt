@@ -30,7 +30,7 @@ fn meet_listed(ridges: &[RidgeRow], g: u32, h: u32) -> bool
 }
 
 // Whether two flats, if they share exactly two corners, meet in a listed ridge.
-fn is_listed(ridges: &[RidgeRow], g: u32, h: u32) -> bool
+fn meeting_listed(ridges: &[RidgeRow], g: u32, h: u32) -> bool
     ensures { result ≡ meeting_listed ridges.now g h }
 {
     !share_two(g, h) || meet_listed(ridges, g, h)
@@ -40,7 +40,7 @@ fn is_listed(ridges: &[RidgeRow], g: u32, h: u32) -> bool
 fn are_listed(flats: &[u32], ridges: &[RidgeRow], k: usize, h: u32) -> bool
     ensures { result ≡ list_all (λ g. meeting_listed ridges.now g h) (take k flats.now) }
 {
-    flats.iter().take(k).all(|g| is_listed(ridges, *g, h))
+    flats.iter().take(k).all(|g| meeting_listed(ridges, *g, h))
 }
 
 // Whether all flats that share exactly two corners meet in a listed ridge.

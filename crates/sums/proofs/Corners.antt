@@ -26,15 +26,15 @@ use Rattle.sums.specs.Sums.{sum_meaning}
 use Rattle.sums.proofs.Numbering.{row_below, column_below, row_column, numbered-sums}
 
 -- ---- lists of corners
-module _ (A B : List Vector) (some_IsFirst : 1 ≤ length A) (some_second : 1 ≤ length B) where
+module _ (A B : List Vector) (some_first : 1 ≤ length A) (some_second : 1 ≤ length B) where
   pub extent_sums : extent ((extent_of A).least +ᵛ (extent_of B).least) ((extent_of A).greatest +ᵛ (extent_of B).greatest) ≡ extent_of (sums A B)
   extent_sums i = extent (vector (low x⁺ i) (low y⁺ i) (low z⁺ i)) (vector (high x⁺ i) (high y⁺ i) (high z⁺ i))
     where
       low : (a : Vector) → least a A +ℤ least a B ≡ least a (sums A B)
-      low a = sym (least-sums a A B some_IsFirst some_second)
+      low a = sym (least-sums a A B some_first some_second)
 
       high : (a : Vector) → greatest a A +ℤ greatest a B ≡ greatest a (sums A B)
-      high a = sym (greatest-sums a A B some_IsFirst some_second)
+      high a = sym (greatest-sums a A B some_first some_second)
 
 -- the farthest corner of a sum is the sum of the farthest corners
 module _ (n : Vector) (A B : List Vector) (i j : ℕ) (f : Farthest n A i) (g : Farthest n B j) where
