@@ -35,7 +35,7 @@ pub trait Body {
             least: first,
             greatest: first,
         };
-        // by numbers: there is no slice to go over, and each question may refuse, which a fold says no plainer
+        // by numbers: there is no slice to go over, and each question may refuse. A fold (`try_fold`) left its last goal open.
         for i in 1..count {
             extent = extent.widened(self.corner(i)?);
         }

@@ -10,7 +10,7 @@ use refusal::Refusal;
 use vector::{REACH, Vector};
 
 // The least and the greatest of each coordinate of some corners (a bounding box).
-#[derive(Clone, Copy, PartialEq, Eq, Debug)]
+#[derive(Clone, Copy, PartialEq, Eq, Hash, Debug)]
 pub struct Extent {
     pub least: Vector,
     pub greatest: Vector,

@@ -4,12 +4,13 @@
 ghost use Rattle.std.specs.Prelude.{◌≤◌, length, IfOk};
 
 use report::{examine, line, unreadable, usage};
+use rows::LONGEST;
 use std::fs::File;
-use std::io::{BufReader, Read};
+use std::io::{BufReader, ErrorKind, Read};
 use std::{env, io};
 
 // One byte more than any capture has, so that a longer file is refused without being read whole.
-const READ_LIMIT: usize = 623;
+const READ_LIMIT: usize = LONGEST + 1;
 
 // The bytes of a file from its start on, up to the limit.
 fn first_bytes(rt: &HostRuntime, name: &str) -> io::Result<Vec<u8>>
@@ -27,6 +28,8 @@ fn line_of(rt: &HostRuntime, name: &str) -> io::Result<String> {
     let heap = rt.alloc();
     match first_bytes(rt, name) {
         Ok(bytes) => Ok(line(heap, name, examine(&bytes))?),
+        // want of memory is no fault of the file: it ends the program
+        Err(cause) if cause.kind() == ErrorKind::OutOfMemory => Err(cause),
         Err(cause) => {
             let why = cause.to_string(heap)?;
             Ok(unreadable(heap, name, why.as_str())?)

@@ -1,5 +1,5 @@
 -- The counts of a tally.
-use Rattle.std.specs.Prelude.{ℕ, ◌+◌, ◌-◌, ◌^◌, min}
+use Rattle.std.specs.Prelude.{◌≡◌, ◌≢◌, ℕ, ◌+◌, ◌-◌, ◌^◌, min}
 use Rattle.std.specs.Option.{unwrap_or}
 use Rattle.std.specs.Ordering.{nat_cmp}
 use Rattle.std.specs.BTreeMap.{get}
@@ -12,3 +12,12 @@ refused_by tally number = unwrap_or (get nat_cmp tally.refused number) 0
 -- one more, up to the largest count
 abbrev pub one_more : ℕ → ℕ
 one_more n = min (n + 1) (2 ^ 64 - 1)
+
+-- one more was accepted, and nothing else changed
+abbrev pub CountsAccepted : Tally → Tally → Type 0
+CountsAccepted old new = new ≡ record old { accepted = one_more old.accepted }
+
+-- one more was refused by a number, and as many as before by every other
+pub record CountsRefused (old new : Tally) (number : ℕ) : Type 0 where
+  pub counted : refused_by new number ≡ one_more (refused_by old number)
+  pub others : (q : ℕ) → q ≢ number → refused_by new q ≡ refused_by old q

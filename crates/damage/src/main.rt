@@ -18,6 +18,7 @@ use std::{env, fs, io};
 const CHANGES: [u8; 3] = [1, 128, 255];
 
 // What is found of the bytes with one of them changed, which is then changed back.
+// That they are as they were is said of each call here and below, since no type can say it.
 fn changed(bytes: &mut [u8], at: usize, change: u8) -> Result<Accepted, Refusal>
     requires { at < length bytes.old }
     ensures finding { let damaged = slice_set bytes.old at (bit_xor (slice_index bytes.old at) change) in

@@ -1,5 +1,5 @@
 // How many captures got each answer.
-ghost use Rattle.std.specs.Prelude.{◌≡◌, ◌≢◌, ℕ, IfErr, OnErr, OnOk};
+ghost use Rattle.std.specs.Prelude.{◌≡◌, ℕ, IfErr, OnErr, OnOk};
 ghost use Rattle.refusal.specs.Numbers.{number_of};
 
 use refusal::Refusal;
@@ -10,15 +10,15 @@ use std::fmt;
 
 // How many captures were accepted, and how many were refused by each number: the line that is printed goes by numbers.
 #[derive(Drop)]
-pub struct Tally {
+pub(crate) struct Tally {
     accepted: usize,
     refused: BTreeMap<u8, usize>,
 }
 
 impl Tally {
-    ghost use Rattle.damage.specs.Tally.{refused_by, one_more};
+    ghost use Rattle.damage.specs.Tally.{refused_by, CountsAccepted, CountsRefused};
 
-    pub fn new(heap: Global) -> Tally
+    pub(crate) fn new(heap: Global) -> Tally
         ensures accepted { result.accepted ≡ 0 }
         ensures refused { (q : ℕ) → refused_by result q ≡ 0 }
     {
@@ -36,10 +36,9 @@ impl Tally {
     }
 
     // Counts one more capture with this answer.
-    pub fn note(&mut self, finding: Result<Accepted, Refusal>) -> Result<(), AllocError>
-        ensures accepted { OnOk finding (self.new ≡ record self.old { accepted = one_more self.old.accepted }) }
-        ensures refused { IfErr finding (λ cause. OnOk result (refused_by self.new (number_of cause) ≡ one_more (refused_by self.old (number_of cause)))) }
-        ensures others { IfErr finding (λ cause. OnOk result ((q : ℕ) → q ≢ number_of cause → refused_by self.new q ≡ refused_by self.old q)) }
+    pub(crate) fn note(&mut self, finding: Result<Accepted, Refusal>) -> Result<(), AllocError>
+        ensures accepted { OnOk finding (CountsAccepted self.old self.new) }
+        ensures refused { IfErr finding (λ cause. OnOk result (CountsRefused self.old self.new (number_of cause))) }
         ensures none_accepted { OnErr finding (self.new.accepted ≡ self.old.accepted) }
     {
         match finding {

@@ -6,7 +6,7 @@ use rows::Counts;
 use std::fmt;
 
 // A capture that was accepted: its counts, how many bytes its solid was saved as, and whether they are the bytes that were read.
-#[derive(Clone, Copy, PartialEq, Eq, Debug)]
+#[derive(Clone, Copy, PartialEq, Eq, Hash, Debug)]
 pub struct Accepted {
     pub counts: Counts,
     pub saved: usize,

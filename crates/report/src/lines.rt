@@ -6,11 +6,9 @@ ghost use Rattle.report.specs.Texts.{words, Found};
 
 use crate::accepted::Accepted;
 use refusal::Refusal;
+use rows::LONGEST;
 use solid::Solid;
 use std::alloc::{AllocError, Global};
-
-// The bytes of the longest capture.
-const LONGEST: usize = 622;
 
 // Reads a capture, saves its solid again and compares.
 pub fn examine(bytes: &[u8]) -> Result<Accepted, Refusal>

@@ -8,7 +8,7 @@ use Rattle.rows.specs.declared.counts.Counts.{Counts}
 use Rattle.rows.specs.declared.ridge.RidgeRow.{RidgeRow}
 use Rattle.rows.specs.Bytes.{written, four_bytes}
 use Rattle.rows.specs.Fields.{corner_bytes, ridge_bytes}
-use Rattle.rows.specs.Trailers.{size, trailer_bytes}
+use Rattle.rows.specs.Trailers.{size, starts, distances, trailer_bytes}
 use Rattle.rows.specs.Captures.{Rows, counts, capture, saving, saved}
 use Rattle.rows.proofs.Writing.{written_then, written_start}
 
@@ -48,23 +48,23 @@ pub room : (R : Rows) (n : Counts) (b₀ : List ℕ) → counts R ≡ n → size
 room R n b₀ e h = let l = length-capture R ∙ ap size e in grind (arith, nat_tests)
 
 -- and table after table and the trailer make it up
-pub all_written : (R : Rows) (n : Counts) (b₀ : List ℕ) {vs : List Vector} {ms : List ℕ} {gs : List RidgeRow} {bs b₁ b₂ b₃ b₄ : List ℕ}
-    → counts R ≡ n → size n ≤ length b₀
-    → vs ≡ R.corners → b₁ ≡ written 0 (flat_map corner_bytes vs) b₀
-    → ms ≡ R.flats → b₂ ≡ written (6 * n.corners) (flat_map four_bytes ms) b₁
-    → gs ≡ R.ridges → b₃ ≡ written (6 * n.corners + 4 * n.flats) (flat_map ridge_bytes gs) b₂
-    → bs ≡ trailer_bytes n → b₄ ≡ written (6 * n.corners + 4 * n.flats + 2 * n.ridges) bs b₃
+pub all_written : (R : Rows) (n : Counts) (b₀ : List ℕ) {vs : List Vector} {ms : List ℕ} {gs : List RidgeRow} {bs b₁ b₂ b₃ b₄ : List ℕ} {at back : Counts}
+    → counts R ≡ n → at ≡ starts n → back ≡ distances n → size n ≤ length b₀
+    → vs ≡ R.corners → b₁ ≡ written at.corners (flat_map corner_bytes vs) b₀
+    → ms ≡ R.flats → b₂ ≡ written at.flats (flat_map four_bytes ms) b₁
+    → gs ≡ R.ridges → b₃ ≡ written at.ridges (flat_map ridge_bytes gs) b₂
+    → bs ≡ trailer_bytes n → b₄ ≡ written back.corners bs b₃
     → b₄ ≡ saved R b₀
-all_written R n b₀ e h v p m q g r t s =
+all_written R n b₀ {vs} {ms} {gs = es} {bs} {b₁} {b₂} {b₃} e a d h v p m q g r t s =
     let lc : length cs ≡ 6 * n.corners = length-joined corner_bytes 6 (λ v. refl) R.corners ∙ ap (λ m. 6 * m.corners) e in
     let lf : length fs ≡ 4 * n.flats = length-joined four_bytes 4 (λ m. refl) R.flats ∙ ap (λ m. 4 * m.flats) e in
     let lg : length gs ≡ 2 * n.ridges = length-joined ridge_bytes 2 (λ g. refl) R.ridges ∙ ap (λ m. 2 * m.ridges) e in
     let lcf = length-append cs fs in
     let lcfg = length-append (cs ++ fs) gs in
-    let one = p ∙ ap (λ t. written 0 (flat_map corner_bytes t) b₀) v in
-    let two = written_then 0 _ cs fs b₀ one (ap (flat_map four_bytes) m) q (omega arith) (omega arith) in
-    let three = written_then 0 _ (cs ++ fs) gs b₀ two (ap (flat_map ridge_bytes) g) r (omega arith) (omega arith) in
-    let four = written_then 0 _ (cs ++ fs ++ gs) (trailer_bytes (counts R)) b₀ three (t ∙ ap trailer_bytes (sym e)) s (omega arith) (omega arith) in
+    let one = p ∙ (λ i. written (a i).corners (flat_map corner_bytes (v i)) b₀) in
+    let two = written_then 0 _ cs fs b₀ one (ap (flat_map four_bytes) m) (q ∙ (λ i. written (a i).flats (flat_map four_bytes ms) b₁)) (omega arith) (omega arith) in
+    let three = written_then 0 _ (cs ++ fs) gs b₀ two (ap (flat_map ridge_bytes) g) (r ∙ (λ i. written (a i).ridges (flat_map ridge_bytes es) b₂)) (omega arith) (omega arith) in
+    let four = written_then 0 _ (cs ++ fs ++ gs) (trailer_bytes (counts R)) b₀ three (t ∙ ap trailer_bytes (sym e)) (s ∙ (λ i. written (d i).corners bs b₃)) (omega arith) (omega arith) in
     four
     ∙ ap (λ t. written 0 t b₀) (append_assoc (cs ++ fs) gs (trailer_bytes (counts R)) ∙ append_assoc cs fs (gs ++ trailer_bytes (counts R)))
     ∙ written_start (capture R) b₀

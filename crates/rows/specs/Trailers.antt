@@ -16,6 +16,10 @@ trailer_at bs i = record {
 abbrev pub size : Counts → ℕ
 size n = 6 * n.corners + 4 * n.flats + 2 * n.ridges + 10
 
+-- where the first row of each table lies
+abbrev pub starts : Counts → Counts
+starts n = record { corners = 0; flats = 6 * n.corners; ridges = 6 * n.corners + 4 * n.flats }
+
 -- how far back from the trailer the first row of each table lies
 abbrev pub distances : Counts → Counts
 distances n = record {

@@ -3,12 +3,14 @@ ghost use Rattle.std.specs.Prelude.{◌≡◌, IfOk};
 ghost use Rattle.rows.specs.Captures.{decoding, capture};
 ghost use Rattle.rows.specs.Meaning.{meant, rows_of};
 
-use crate::row::Row;
 use crate::table::Table;
 use crate::tables::Tables;
-use crate::trailer::Trailer;
+use crate::trailer;
+use crate::trailer::{Trailer, starts};
 use refusal::Refusal;
-use vector::Vector;
+
+// The bytes of the longest capture.
+pub const LONGEST: usize = 622;
 
 impl Tables {
     // The rows that a capture says; refused where its length or its trailer is not as it should be.
@@ -17,20 +19,19 @@ impl Tables {
         ensures again { IfOk result (λ t. capture (rows_of t) ≡ bytes.now) }
     {
         let len = bytes.len();
-        if !(10..=622).contains(&len) {
+        if !(trailer::LEN..=LONGEST).contains(&len) {
             return Err(Refusal::Length);
         }
-        let trailer = Trailer::at(bytes, len - 10);
+        let trailer = Trailer::at(bytes, len - trailer::LEN);
         if !trailer.fits(len) {
             return Err(Refusal::Layout);
         }
         let counts = trailer.counts;
-        let flats_at = Vector::WIDTH * counts.corners;
-        let ridges_at = flats_at + u32::WIDTH * counts.flats;
+        let at = starts(counts);
         Ok(Tables {
-            corners: Table::read(bytes, 0, counts.corners),
-            flats: Table::read(bytes, flats_at, counts.flats),
-            ridges: Table::read(bytes, ridges_at, counts.ridges),
+            corners: Table::read(bytes, at.corners, counts.corners),
+            flats: Table::read(bytes, at.flats, counts.flats),
+            ridges: Table::read(bytes, at.ridges, counts.ridges),
         })
     }
 }

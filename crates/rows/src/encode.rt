@@ -9,14 +9,13 @@ ghost use Rattle.rows.specs.Meaning.{rows_of};
 ghost use Rattle.rows.specs.Back.{RowsComeBack};
 
 use crate::bytes::put;
-use crate::ridge::RidgeRow;
 use crate::row::Row;
 use crate::tables::Tables;
-use crate::trailer::trailer_bytes;
+use crate::trailer;
+use crate::trailer::{distances, starts, trailer_bytes};
 use refusal::Refusal;
-use vector::Vector;
 
-// Rows one after the other, from a place on.
+// Rows one after the other, from a place on: each knows its number, which a walk over parts of the buffer would also count.
 fn put_rows<R: Row>(buffer: &mut [u8], at: usize, rows: &[R])
     requires { at + R.WIDTH * length rows.now ≤ length buffer.old }
     ensures { buffer.new ≡ written at (flat_map R.row_bytes rows.now) buffer.old }
@@ -34,16 +33,15 @@ impl Tables {
         ensures allowed { sizes (counts_of (rows_of self.now)) ≡ true }
     {
         let counts = self.counts();
-        let flats_at = Vector::WIDTH * counts.corners;
-        let ridges_at = flats_at + u32::WIDTH * counts.flats;
-        let trailer_at = ridges_at + RidgeRow::WIDTH * counts.ridges;
-        let len = trailer_at + 10;
+        let at = starts(counts);
+        let trailer_at = distances(counts).corners;
+        let len = trailer_at + trailer::LEN;
         if buffer.len() < len {
             return Err(Refusal::NoRoom);
         }
-        put_rows(buffer, 0, self.corners());
-        put_rows(buffer, flats_at, self.flats());
-        put_rows(buffer, ridges_at, self.ridges());
+        put_rows(buffer, at.corners, self.corners());
+        put_rows(buffer, at.flats, self.flats());
+        put_rows(buffer, at.ridges, self.ridges());
         put(buffer, trailer_at, &trailer_bytes(counts));
         Ok(len)
     }

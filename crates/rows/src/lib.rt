@@ -12,6 +12,7 @@ mod tables;
 mod trailer;
 
 pub use counts::Counts;
+pub use decode::LONGEST;
 pub use encode::rows_come_back;
 pub use ridge::RidgeRow;
 pub use tables::Tables;

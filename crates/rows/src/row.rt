@@ -22,7 +22,8 @@ pub(crate) trait Row: Copy {
     // The bytes of a row.
     ghost row_bytes: { Self → List ℕ };
 
-    // Reads the row at a place. Bytes and a place, here and below, since the format speaks of places in the whole capture.
+    // Reads the row at a place. Bytes and a place go together here and below: the definitions of the format speak of places
+    // in the whole capture, and a part of the bytes would need each of them once more for a part.
     fn read(bytes: &[u8], at: usize) -> Self
         requires { at + WIDTH ≤ length bytes.now }
         ensures { result ≡ row_at bytes.now at };

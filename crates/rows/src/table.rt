@@ -1,4 +1,5 @@
-// Rows of one kind in a place of fixed size: an array, and how many of its rows are used. No heap, so that want of memory cannot occur.
+// Rows of one kind in a place of fixed size: an array, and how many of its rows are used.
+// No heap, so that want of memory cannot occur; and plain data that is copied, which the library's vectors of fixed capacity are not.
 ghost use Rattle.std.specs.Prelude.{◌≡◌, ◌+◌, ◌*◌, ◌≤◌, length, ⊤};
 
 use crate::row::Row;

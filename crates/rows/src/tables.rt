@@ -1,7 +1,7 @@
 // The rows of a capture in memory, in the sizes that the format allows.
-ghost use Rattle.std.specs.Prelude.{◌≡◌, true, length};
+ghost use Rattle.std.specs.Prelude.{◌≡◌, true};
 ghost use Rattle.rows.specs.Sizes.{sizes};
-ghost use Rattle.rows.specs.Table.{held};
+ghost use Rattle.rows.specs.Table.{held_counts};
 
 use crate::counts::Counts;
 use crate::ridge::RidgeRow;
@@ -14,7 +14,7 @@ pub struct Tables {
     // The masks: bit k says that corner k lies in the flat.
     pub(crate) flats: Table<u32, 60>,
     pub(crate) ridges: Table<RidgeRow, 90>,
-    ghost allowed: { sizes (record { corners = length (held corners); flats = length (held flats); ridges = length (held ridges) }) ≡ true },
+    ghost allowed: { sizes (held_counts corners flats ridges) ≡ true },
 }
 
 impl Tables {

@@ -1,13 +1,16 @@
 // The trailer of a capture: counts, edition and distances back to the first row of each table.
 ghost use Rattle.std.specs.Prelude.{◌≡◌, ◌+◌, ◌≤◌, length, true};
 ghost use Rattle.rows.specs.Sizes.{sizes};
-ghost use Rattle.rows.specs.Trailers.{trailer_at, distances, layout, trailer_bytes};
+ghost use Rattle.rows.specs.Trailers.{trailer_at, starts, distances, layout, trailer_bytes};
 
 use crate::bytes::u16_at;
 use crate::counts::Counts;
 use crate::ridge::RidgeRow;
 use crate::row::Row;
 use vector::Vector;
+
+// How many bytes it takes.
+pub(crate) const LEN: usize = 10;
 
 #[derive(Clone, Copy)]
 pub(crate) struct Trailer {
@@ -48,12 +51,26 @@ impl Trailer {
             return false;
         }
         let back = distances(self.counts);
-        self.edition == 1 && len == back.corners + 10 && self.back == back
+        self.edition == 1 && len == back.corners + LEN && self.back == back
+    }
+}
+
+// Where the first row of each table lies.
+pub(crate) fn starts(counts: Counts) -> Counts
+    requires { sizes counts ≡ true }
+    ensures { result ≡ starts counts }
+{
+    let flats = Vector::WIDTH * counts.corners;
+    let ridges = flats + u32::WIDTH * counts.flats;
+    Counts {
+        corners: 0,
+        flats,
+        ridges,
     }
 }
 
 // How far back from the trailer the first row of each table lies.
-fn distances(counts: Counts) -> Counts
+pub(crate) fn distances(counts: Counts) -> Counts
     requires { sizes counts ≡ true }
     ensures { result ≡ distances counts }
 {
@@ -68,7 +85,7 @@ fn distances(counts: Counts) -> Counts
 }
 
 // The bytes of the trailer that belongs to these counts.
-pub(crate) fn trailer_bytes(counts: Counts) -> [u8; 10]
+pub(crate) fn trailer_bytes(counts: Counts) -> [u8; LEN]
     requires { sizes counts ≡ true }
     ensures { result ≡ trailer_bytes counts }
 {

@@ -21,7 +21,8 @@ fn lowest(from: usize, mask: u32) -> Option<usize>
     (from..32).find(|k| lies(*k, mask))
 }
 
-// That corner, or the first number that is no corner's and not below `from`: the rules take the origin for that one's place.
+// That corner, or the first number that is no corner's and not below `from`. A number and no option, as the rules have it:
+// they take the origin for the place of such a number, and an option would need that default at each of three steps.
 pub(crate) fn next(from: usize, mask: u32) -> usize
     ensures { result ≡ next_in from mask }
 {

@@ -34,7 +34,8 @@ impl Solid {
         self.tables.corners().get(k).copied()
     }
 
-    // Corner number k, within reach; the origin where there is none, as the definition of a ridge's vector has it.
+    // Corner number k, within reach; the origin where there is none, as the definition of a ridge's vector has it. The rules
+    // have the like for rows that are not lawful yet, and a solid needs no test of reach.
     fn near(&self, k: usize) -> Vector
         ensures value { result ≡ corner_at (solid_rows self.now).corners k }
         ensures reach { within 10000 result ≡ true }

@@ -21,6 +21,8 @@ pub(crate) struct Listing {
     pub(crate) second: Counts,
 }
 
+// Each part lists few, so every count fits: asked for here, since a ghost field on `Counts` would make the definitions of the
+// sum, which speak of it, import themselves.
 impl Listing {
     // How many products the ridges of the parts have, each with its opposite.
     pub(crate) fn products(self) -> usize

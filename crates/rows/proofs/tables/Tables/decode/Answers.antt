@@ -1,5 +1,7 @@
-use Rattle.std.proofs.Common.{◌≡◌, true, length, Ok, sym, ap, ◌∙◌}
-use Rattle.rows.specs.Captures.{capture, rows_by, trailer_in}
+use Rattle.std.proofs.Common.{◌≡◌, ◌+◌, ◌*◌, true, length, Ok, sym, ap, ◌∙◌}
+use Rattle.rows.specs.Bytes.{u32_at}
+use Rattle.rows.specs.Fields.{corner_at, ridge_at}
+use Rattle.rows.specs.Captures.{each, capture, rows_by, trailer_in}
 use Rattle.rows.specs.Sizes.{sizes}
 use Rattle.rows.specs.Trailers.{layout}
 use Rattle.rows.proofs.Again.{again}
@@ -16,7 +18,11 @@ invariant_of-result c =
 pub returns : goal.returns
 returns c =
     let bs = c.args.bytes.now in
+    let n = c.at-trailer.result.counts in
+    let at = c.starts-at.ensures in
     let l : layout (length bs) (trailer_in bs) ≡ true = ap (layout (length bs)) (sym c.at-trailer.ensures) ∙ sym c.fits.ensures ∙ c.if-not-fits.false in
-    let read = same_rows (c.read.ensures ∙ corners_first bs c.at-trailer.result.counts.corners) c.read-2.ensures c.read-3.ensures in
-    let e = read ∙ ap (λ t. rows_by t.counts bs) c.at-trailer.ensures in
+    let corners = c.read.ensures ∙ (λ i. each n.corners (λ k. corner_at bs ((at i).corners + 6 * k))) ∙ corners_first bs n.corners in
+    let flats = c.read-2.ensures ∙ (λ i. each n.flats (λ k. u32_at bs ((at i).flats + 4 * k))) in
+    let ridges = c.read-3.ensures ∙ (λ i. each n.ridges (λ k. ridge_at bs ((at i).ridges + 2 * k))) in
+    let e = same_rows corners flats ridges ∙ ap (λ t. rows_by t.counts bs) c.at-trailer.ensures in
     record { answer = ap Ok e ∙ sym (decoding_laid bs l); again = ap capture e ∙ again bs (λ k. (c.type_inv.bytes k).fits) l }
