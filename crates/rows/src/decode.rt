@@ -3,10 +3,11 @@ ghost use Rattle.std.specs.Prelude.{◌≡◌, IfOk};
 ghost use Rattle.rows.specs.Captures.{decoding, capture};
 ghost use Rattle.rows.specs.Meaning.{meant, rows_of};
 
+use crate::layout::Layout;
 use crate::table::Table;
 use crate::tables::Tables;
 use crate::trailer;
-use crate::trailer::{Trailer, starts};
+use crate::trailer::Trailer;
 use refusal::Refusal;
 
 // The bytes of the longest capture.
@@ -27,7 +28,7 @@ impl Tables {
             return Err(Refusal::Layout);
         }
         let counts = trailer.counts;
-        let at = starts(counts);
+        let at = Layout { counts }.starts();
         Ok(Tables {
             corners: Table::read(bytes, at.corners, counts.corners),
             flats: Table::read(bytes, at.flats, counts.flats),

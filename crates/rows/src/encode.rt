@@ -9,10 +9,10 @@ ghost use Rattle.rows.specs.Meaning.{rows_of};
 ghost use Rattle.rows.specs.Back.{RowsComeBack};
 
 use crate::bytes::put;
+use crate::layout::Layout;
 use crate::row::Row;
 use crate::tables::Tables;
 use crate::trailer;
-use crate::trailer::{distances, starts, trailer_bytes};
 use refusal::Refusal;
 
 // Rows one after the other, from a place on: each knows its number, which a walk over parts of the buffer would also count.
@@ -32,9 +32,11 @@ impl Tables {
         ensures bytes { buffer.new ≡ saved (rows_of self.now) buffer.old }
         ensures allowed { sizes (counts_of (rows_of self.now)) ≡ true }
     {
-        let counts = self.counts();
-        let at = starts(counts);
-        let trailer_at = distances(counts).corners;
+        let layout = Layout {
+            counts: self.counts(),
+        };
+        let at = layout.starts();
+        let trailer_at = layout.distances().corners;
         let len = trailer_at + trailer::LEN;
         if buffer.len() < len {
             return Err(Refusal::NoRoom);
@@ -42,7 +44,7 @@ impl Tables {
         put_rows(buffer, at.corners, self.corners());
         put_rows(buffer, at.flats, self.flats());
         put_rows(buffer, at.ridges, self.ridges());
-        put(buffer, trailer_at, &trailer_bytes(counts));
+        put(buffer, trailer_at, &layout.trailer_bytes());
         Ok(len)
     }
 }

@@ -5,6 +5,7 @@ mod bytes;
 mod counts;
 mod decode;
 mod encode;
+mod layout;
 mod ridge;
 mod row;
 mod table;

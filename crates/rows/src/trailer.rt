@@ -1,13 +1,10 @@
 // The trailer of a capture: counts, edition and distances back to the first row of each table.
-ghost use Rattle.std.specs.Prelude.{◌≡◌, ◌+◌, ◌≤◌, length, true};
-ghost use Rattle.rows.specs.Sizes.{sizes};
-ghost use Rattle.rows.specs.Trailers.{trailer_at, starts, distances, layout, trailer_bytes};
+ghost use Rattle.std.specs.Prelude.{◌≡◌, ◌+◌, ◌≤◌, length};
+ghost use Rattle.rows.specs.Trailers.{trailer_at, layout};
 
 use crate::bytes::u16_at;
 use crate::counts::Counts;
-use crate::ridge::RidgeRow;
-use crate::row::Row;
-use vector::Vector;
+use crate::layout::Layout;
 
 // How many bytes it takes.
 pub(crate) const LEN: usize = 10;
@@ -50,64 +47,10 @@ impl Trailer {
         if !self.counts.are_allowed() {
             return false;
         }
-        let back = distances(self.counts);
+        let layout = Layout {
+            counts: self.counts,
+        };
+        let back = layout.distances();
         self.edition == 1 && len == back.corners + LEN && self.back == back
     }
-}
-
-// Where the first row of each table lies.
-pub(crate) fn starts(counts: Counts) -> Counts
-    requires { sizes counts ≡ true }
-    ensures { result ≡ starts counts }
-{
-    let flats = Vector::WIDTH * counts.corners;
-    let ridges = flats + u32::WIDTH * counts.flats;
-    Counts {
-        corners: 0,
-        flats,
-        ridges,
-    }
-}
-
-// How far back from the trailer the first row of each table lies.
-pub(crate) fn distances(counts: Counts) -> Counts
-    requires { sizes counts ≡ true }
-    ensures { result ≡ distances counts }
-{
-    let ridges = RidgeRow::WIDTH * counts.ridges;
-    let flats = u32::WIDTH * counts.flats + ridges;
-    let corners = Vector::WIDTH * counts.corners + flats;
-    Counts {
-        corners,
-        flats,
-        ridges,
-    }
-}
-
-// The bytes of the trailer that belongs to these counts.
-pub(crate) fn trailer_bytes(counts: Counts) -> [u8; LEN]
-    requires { sizes counts ≡ true }
-    ensures { result ≡ trailer_bytes counts }
-{
-    let back = distances(counts);
-    let [a, b] = (back.corners as u16).to_le_bytes();
-    let [c, d] = (back.flats as u16).to_le_bytes();
-    let [e, f] = (back.ridges as u16).to_le_bytes();
-    let Counts {
-        corners,
-        flats,
-        ridges,
-    } = counts;
-    [
-        corners as u8,
-        flats as u8,
-        ridges as u8,
-        1,
-        a,
-        b,
-        c,
-        d,
-        e,
-        f,
-    ]
 }

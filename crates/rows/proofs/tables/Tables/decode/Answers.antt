@@ -15,6 +15,9 @@ invariant_of-result c =
     let fits = laid (length c.args.bytes.now) t (sym c.fits.ensures ∙ c.if-not-fits.false) in
     record { allowed = ap sizes (counts_read t.counts _ _ _ c.read.ensures c.read-2.ensures c.read-3.ensures) ∙ fits.allowed }
 
+pub invariant_of-starts : goal.invariant_of-starts
+invariant_of-starts c = record { allowed = (laid (length c.args.bytes.now) c.at-trailer.result (sym c.fits.ensures ∙ c.if-not-fits.false)).allowed }
+
 pub returns : goal.returns
 returns c =
     let bs = c.args.bytes.now in

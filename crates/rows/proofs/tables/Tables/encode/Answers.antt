@@ -8,16 +8,16 @@ use Rattle.rows.proofs.tables.Tables.encode.Goals as goal
 pub returns-then-buffer-len : goal.returns-then-buffer-len
 returns-then-buffer-len c =
     let t = c.args.self.now in
-    let n = c.counts-counts.result in
+    let n = c.counts.result in
     let short : length c.args.buffer.now < size n = omega (arith, ap (λ (m : Counts). m.corners) c.distances-trailer_at.ensures) in
-    let kept = no_room (rows_of t) n c.args.buffer.now (sym c.counts-counts.ensures) short in
+    let kept = no_room (rows_of t) n c.args.buffer.now (sym c.counts.ensures) short in
     record { answer = kept.0; bytes = kept.1; allowed = t.allowed }
 
 pub returns : goal.returns
 returns c =
     let t = c.args.self.now in
-    let n = c.counts-counts.result in
-    let e = sym c.counts-counts.ensures in
+    let n = c.counts.result in
+    let e = sym c.counts.ensures in
     let back = c.distances-trailer_at.ensures in
     let fits : size n ≤ length c.args.buffer.now = omega (arith, ap (λ (m : Counts). m.corners) back) in
     record {
