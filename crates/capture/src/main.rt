@@ -28,8 +28,10 @@ fn line_of(rt: &HostRuntime, name: &str) -> io::Result<String> {
     let heap = rt.alloc();
     match first_bytes(rt, name) {
         Ok(bytes) => Ok(line(heap, name, examine(&bytes))?),
-        // want of memory is no fault of the file: it ends the program
-        Err(cause) if cause.kind() == ErrorKind::OutOfMemory => Err(cause),
+        // want of the program's own memory, which no call of the system answered, is no fault of the file
+        Err(cause) if cause.kind() == ErrorKind::OutOfMemory && cause.raw_os_error().is_none() => {
+            Err(cause)
+        }
         Err(cause) => {
             let why = cause.to_string(heap)?;
             Ok(unreadable(heap, name, why.as_str())?)

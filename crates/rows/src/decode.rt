@@ -3,14 +3,13 @@ ghost use Rattle.std.specs.Prelude.{◌≡◌, IfOk};
 ghost use Rattle.rows.specs.Captures.{decoding, capture};
 ghost use Rattle.rows.specs.Meaning.{meant, rows_of};
 
-use crate::layout::Layout;
 use crate::table::Table;
 use crate::tables::Tables;
 use crate::trailer;
 use crate::trailer::Trailer;
 use refusal::Refusal;
 
-// The bytes of the longest capture.
+// How many bytes the longest capture has.
 pub const LONGEST: usize = 622;
 
 impl Tables {
@@ -24,11 +23,9 @@ impl Tables {
             return Err(Refusal::Length);
         }
         let trailer = Trailer::at(bytes, len - trailer::LEN);
-        if !trailer.fits(len) {
-            return Err(Refusal::Layout);
-        }
-        let counts = trailer.counts;
-        let at = Layout { counts }.starts();
+        let layout = trailer.layout(len).ok_or(Refusal::Layout)?;
+        let counts = layout.counts;
+        let at = layout.starts();
         Ok(Tables {
             corners: Table::read(bytes, at.corners, counts.corners),
             flats: Table::read(bytes, at.flats, counts.flats),

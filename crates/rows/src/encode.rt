@@ -15,7 +15,7 @@ use crate::tables::Tables;
 use crate::trailer;
 use refusal::Refusal;
 
-// Rows one after the other, from a place on: each knows its number, which a walk over parts of the buffer would also count.
+// Rows one after the other, from a place on; by number, since a row's place follows from it.
 fn put_rows<R: Row>(buffer: &mut [u8], at: usize, rows: &[R])
     requires { at + R.WIDTH * length rows.now ≤ length buffer.old }
     ensures { buffer.new ≡ written at (flat_map R.row_bytes rows.now) buffer.old }

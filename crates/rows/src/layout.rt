@@ -1,5 +1,5 @@
 // How a capture of an allowed size is laid out: corner rows, flat rows, ridge rows, trailer.
-ghost use Rattle.std.specs.Prelude.{◌≡◌, true};
+ghost use Rattle.std.specs.Prelude.{◌≡◌, true, is_some, IfSome};
 ghost use Rattle.rows.specs.Sizes.{sizes};
 ghost use Rattle.rows.specs.Trailers.{starts, distances, trailer_bytes};
 
@@ -17,7 +17,19 @@ pub(crate) struct Layout {
 }
 
 impl Layout {
-    // Where the first row of each table lies.
+    // The layout of so many rows, if the format allows them.
+    pub(crate) fn of(counts: Counts) -> Option<Layout>
+        ensures known { is_some result ≡ sizes counts }
+        ensures same { IfSome result (λ l. l.counts ≡ counts) }
+    {
+        if counts.are_allowed() {
+            Some(Layout { counts })
+        } else {
+            None
+        }
+    }
+
+    // Where the first row of each table lies, in bytes.
     pub(crate) fn starts(self) -> Counts
         ensures { result ≡ starts self.counts }
     {
@@ -30,7 +42,7 @@ impl Layout {
         }
     }
 
-    // How far back from the trailer the first row of each table lies.
+    // How far back from the trailer the first row of each table lies, in bytes.
     pub(crate) fn distances(self) -> Counts
         ensures { result ≡ distances self.counts }
     {

@@ -23,7 +23,7 @@ pub(crate) trait Row: Copy {
     ghost row_bytes: { Self → List ℕ };
 
     // Reads the row at a place. Bytes and a place go together here and below: the definitions of the format speak of places
-    // in the whole capture, and a part of the bytes would need each of them once more for a part.
+    // in the whole capture, and a row that took only its own bytes would need each of them a second time.
     fn read(bytes: &[u8], at: usize) -> Self
         requires { at + WIDTH ≤ length bytes.now }
         ensures { result ≡ row_at bytes.now at };

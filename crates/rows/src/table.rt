@@ -54,7 +54,7 @@ impl<T: Row, const N: usize> Table<T, N> {
         self.len
     }
 
-    // The rows that stand one after the other from a place of some bytes on.
+    // The rows that stand one after the other from a place of some bytes on; by number, as in `put_rows`.
     #[tactic(auto, using(crate::proofs::Reading::each_more))]
     pub(crate) fn read(bytes: &[u8], at: usize, len: usize) -> Self
         requires room { len ≤ N }

@@ -1,12 +1,12 @@
 // The trailer of a capture: counts, edition and distances back to the first row of each table.
-ghost use Rattle.std.specs.Prelude.{◌≡◌, ◌+◌, ◌≤◌, length};
+ghost use Rattle.std.specs.Prelude.{◌≡◌, ◌+◌, ◌≤◌, length, is_some, IfSome};
 ghost use Rattle.rows.specs.Trailers.{trailer_at, layout};
 
 use crate::bytes::u16_at;
 use crate::counts::Counts;
 use crate::layout::Layout;
 
-// How many bytes it takes.
+// How many bytes a trailer takes.
 pub(crate) const LEN: usize = 10;
 
 #[derive(Clone, Copy)]
@@ -19,7 +19,7 @@ pub(crate) struct Trailer {
 impl Trailer {
     // The trailer that stands at a place.
     pub(crate) fn at(bytes: &[u8], at: usize) -> Trailer
-        requires { at + 10 ≤ length bytes.now }
+        requires { at + LEN ≤ length bytes.now }
         ensures { result ≡ trailer_at bytes.now at }
     {
         let counts = Counts {
@@ -40,17 +40,25 @@ impl Trailer {
         }
     }
 
-    // Whether a capture of this length is laid out as its trailer says.
-    pub(crate) fn fits(self, len: usize) -> bool
+    // How a capture of this length is laid out, if that is as its trailer says.
+    pub(crate) fn layout(self, len: usize) -> Option<Layout>
+        ensures known { is_some result ≡ layout len self }
+        ensures same { IfSome result (λ l. l.counts ≡ self.counts) }
+    {
+        let layout = Layout::of(self.counts)?;
+        if self.fits(layout, len) {
+            Some(layout)
+        } else {
+            None
+        }
+    }
+
+    // Whether edition, length and distances are those of this layout.
+    fn fits(self, of: Layout, len: usize) -> bool
+        requires { of.counts ≡ self.counts }
         ensures { result ≡ layout len self }
     {
-        if !self.counts.are_allowed() {
-            return false;
-        }
-        let layout = Layout {
-            counts: self.counts,
-        };
-        let back = layout.distances();
+        let back = of.distances();
         self.edition == 1 && len == back.corners + LEN && self.back == back
     }
 }

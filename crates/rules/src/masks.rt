@@ -50,7 +50,8 @@ pub(crate) fn meet_in(ridge: RidgeRow, g: u32, h: u32) -> bool
     share_two(g, h) && ridge.low < ridge.high && holds(g, ridge) && holds(h, ridge)
 }
 
-// Whether each mask has at least three ones, and only below the number of corners.
+// Whether each mask has at least three ones, and only below the number of corners: that number and not `Corners`, here and in
+// rule 7, since these rules ask nothing else of the corners.
 fn masks_hold(corners: usize, flats: &[u32]) -> bool
     requires { corners ≤ 32 }
     ensures { result ≡ list_all (mask_fits corners) flats.now }

@@ -35,7 +35,7 @@ impl Solid {
     }
 
     // Corner number k, within reach; the origin where there is none, as the definition of a ridge's vector has it. The rules
-    // have the like for rows that are not lawful yet, and a solid needs no test of reach.
+    // have the same for rows that need not be lawful, behind a test of reach that a solid does not need.
     fn near(&self, k: usize) -> Vector
         ensures value { result ≡ corner_at (solid_rows self.now).corners k }
         ensures reach { within 10000 result ≡ true }

@@ -21,8 +21,8 @@ pub(crate) struct Listing {
     pub(crate) second: Counts,
 }
 
-// Each part lists few, so every count fits: asked for here, since a ghost field on `Counts` would make the definitions of the
-// sum, which speak of it, import themselves.
+// Each part lists few, so every count fits. Asked for here and no ghost field, since the definitions of the sum make values of
+// `Counts` from lists of any length, and a ghost field would have to be proved of each.
 impl Listing {
     // How many products the ridges of the parts have, each with its opposite.
     pub(crate) fn products(self) -> usize
