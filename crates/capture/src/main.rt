@@ -28,7 +28,7 @@ fn line_of(rt: &HostRuntime, name: &str) -> io::Result<String> {
     let heap = rt.alloc();
     match first_bytes(rt, name) {
         Ok(bytes) => Ok(line(heap, name, examine(&bytes))?),
-        // want of the program's own memory, which no call of the system answered, is no fault of the file
+        // the program's own memory is wanting (no error number came from the system): no fault of the file, so it ends the program
         Err(cause) if cause.kind() == ErrorKind::OutOfMemory && cause.raw_os_error().is_none() => {
             Err(cause)
         }

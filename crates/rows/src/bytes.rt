@@ -10,7 +10,8 @@ pub(crate) fn u16_at(bytes: &[u8], at: usize) -> u16
     u16::from_le_bytes([bytes[at], bytes[at + 1]])
 }
 
-// A whole number in 16 bits, two's complement: exact from -32768 to 32767. By remainder, since `as` may lose nothing.
+// A whole number in 16 bits, two's complement: exact from -32768 to 32767. By remainder, as the format's
+// definition has it; `as` may lose nothing.
 pub(crate) fn low16(a: i64) -> u16
     ensures { result ≡ in16 a }
 {

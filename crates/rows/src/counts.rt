@@ -1,4 +1,4 @@
-// How many corners, flats and ridges there are.
+// A number for each table: how many corners, flats and ridges there are, or in bytes where their first rows lie.
 ghost use Rattle.std.specs.Prelude.{◌≡◌};
 ghost use Rattle.rows.specs.Sizes.{sizes};
 

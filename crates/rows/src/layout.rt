@@ -17,7 +17,7 @@ pub(crate) struct Layout {
 }
 
 impl Layout {
-    // The layout of so many rows, if the format allows them.
+    // The layout of so many rows, if the format allows them: an `if`, since the value can be made only where the test holds.
     pub(crate) fn of(counts: Counts) -> Option<Layout>
         ensures known { is_some result ≡ sizes counts }
         ensures same { IfSome result (λ l. l.counts ≡ counts) }

@@ -46,14 +46,10 @@ impl Trailer {
         ensures same { IfSome result (λ l. l.counts ≡ self.counts) }
     {
         let layout = Layout::of(self.counts)?;
-        if self.fits(layout, len) {
-            Some(layout)
-        } else {
-            None
-        }
+        self.fits(layout, len).then_some(layout)
     }
 
-    // Whether edition, length and distances are those of this layout.
+    // Whether edition, length and distances are those of the layout of its counts.
     fn fits(self, of: Layout, len: usize) -> bool
         requires { of.counts ≡ self.counts }
         ensures { result ≡ layout len self }

@@ -22,7 +22,7 @@ fn are_reached(rows: &[Vector]) -> bool
 }
 
 impl<'a> Corners<'a> {
-    // The rows, if all of them are within reach.
+    // The rows, if all of them are within reach: an `if`, since the value can be made only where the test holds.
     pub(crate) fn reached(rows: &'a [Vector]) -> Option<Corners<'a>>
         ensures known { is_some result ≡ in_reach rows.now }
         ensures same { IfSome result (λ c. c.rows.now ≡ rows.now) }
@@ -55,6 +55,6 @@ impl<'a> Corners<'a> {
         ensures same { IfSome result (λ c. c.rows.now ≡ rows.now) }
     {
         let corners = Corners::reached(rows)?;
-        if rise(rows) { Some(corners) } else { None }
+        rise(rows).then_some(corners)
     }
 }
