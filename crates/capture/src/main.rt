@@ -1,37 +1,41 @@
 // Checks capture files: reads each, checks it, saves it again and compares, and prints a line of it.
 #![tactic(auto)]
 
-ghost use Rattle.std.specs.Prelude.{◌≤◌, length, IfOk};
+ghost use Rattle.std.specs.Prelude.{◌≤◌, IfOk};
 
 use report::{examine, line, unreadable, usage};
 use rows::LONGEST;
 use std::fs::File;
-use std::io::{BufReader, ErrorKind, Read};
+use std::io::Read;
 use std::{env, io};
 
 // One byte more than any capture has, so that a longer file is refused without being read whole.
 const READ_LIMIT: usize = LONGEST + 1;
 
-// The bytes of a file from its start on, up to the limit.
-fn first_bytes(rt: &HostRuntime, name: &str) -> io::Result<Vec<u8>>
-    ensures { IfOk result (λ bytes. length bytes.items ≤ READ_LIMIT) }
+// Fills the place from a file's start, and says how many bytes came. By reads of its own: the library's readers either fetch more
+// of a file than is asked for, which is then missing in a pipe, or fill a large place of their own first.
+fn first_bytes(rt: &HostRuntime, name: &str, place: &mut [u8; READ_LIMIT]) -> io::Result<usize>
+    ensures { IfOk result (λ n. n ≤ READ_LIMIT) }
 {
-    let file = File::open(rt, name)?;
-    BufReader::new(rt.alloc(), file)?
-        .bytes()
-        .take(READ_LIMIT)
-        .try_collect(rt.alloc())
+    let mut file = File::open(rt, name)?;
+    let mut len = 0;
+    while len < place.len() {
+        let more = file.read(&mut place[len..])?;
+        if more == 0 {
+            break;
+        }
+        len += more;
+    }
+    Ok(len)
 }
 
 // The line of one file.
 fn line_of(rt: &HostRuntime, name: &str) -> io::Result<String> {
     let heap = rt.alloc();
-    match first_bytes(rt, name) {
-        Ok(bytes) => Ok(line(heap, name, examine(&bytes))?),
-        // the program's own memory is wanting (no error number came from the system): no fault of the file, so it ends the program
-        Err(cause) if cause.kind() == ErrorKind::OutOfMemory && cause.raw_os_error().is_none() => {
-            Err(cause)
-        }
+    // an array, since reading a file must not run out of memory
+    let mut place = [0u8; READ_LIMIT];
+    match first_bytes(rt, name, &mut place) {
+        Ok(len) => Ok(line(heap, name, examine(&place[..len]))?),
         Err(cause) => {
             let why = cause.to_string(heap)?;
             Ok(unreadable(heap, name, why.as_str())?)
