@@ -1,13 +1,10 @@
 -- The counts of a tally.
-use Rattle.std.specs.Prelude.{◌≡◌, ◌≢◌, ℕ, ◌+◌, ◌-◌, ◌^◌, min}
-use Rattle.std.specs.Option.{unwrap_or}
-use Rattle.std.specs.Ordering.{nat_cmp}
-use Rattle.std.specs.BTreeMap.{get}
+use Rattle.std.specs.Prelude.{◌≡◌, ◌≢◌, ℕ, ◌+◌, ◌-◌, ◌^◌, min, slice_index_or}
 use Rattle.damage.specs.declared.tally.Tally.{Tally}
 
 -- how many captures were refused by a number
 abbrev pub refused_by : Tally → ℕ → ℕ
-refused_by tally number = unwrap_or (get nat_cmp tally.refused number) 0
+refused_by tally number = slice_index_or tally.refused number 0
 
 -- one more, up to the largest count
 abbrev pub one_more : ℕ → ℕ

@@ -11,7 +11,6 @@ ghost use Rattle.report.specs.Texts.{Found};
 use crate::tally::Tally;
 use refusal::Refusal;
 use report::{Accepted, examine};
-use std::alloc::{AllocError, Global};
 use std::{env, fs, io};
 
 // How a byte is changed: its lowest bit, its highest, all of them.
@@ -33,32 +32,31 @@ fn changed(bytes: &mut [u8], at: usize, change: u8) -> Result<Accepted, Refusal>
 }
 
 // Notes what is found of each change of one byte.
-fn note_changes(tally: &mut Tally, bytes: &mut [u8], at: usize) -> Result<(), AllocError>
+fn note_changes(tally: &mut Tally, bytes: &mut [u8], at: usize)
     requires { at < length bytes.old }
     ensures { bytes.new ≡ bytes.old }
 {
     for change in CHANGES {
-        tally.note(changed(bytes, at, change))?;
+        tally.note(changed(bytes, at, change));
     }
-    Ok(())
 }
 
 // Every change of one byte: by places, since all bytes are examined while one is changed.
-fn tried(heap: Global, bytes: &mut [u8]) -> Result<Tally, AllocError>
+fn tried(bytes: &mut [u8]) -> Tally
     ensures { bytes.new ≡ bytes.old }
 {
-    let mut tally = Tally::new(heap);
+    let mut tally = Tally::new();
     for at in 0..bytes.len() {
-        note_changes(&mut tally, bytes, at)?;
+        note_changes(&mut tally, bytes, at);
     }
-    Ok(tally)
+    tally
 }
 
 fn main(rt: HostRuntime) -> io::Result<()> {
     for name in env::args(&rt)?.skip(1) {
         let mut bytes = fs::read(&rt, name.as_str())?;
         let changes = bytes.len().saturating_mul(CHANGES.len());
-        let tally = tried(rt.alloc(), &mut bytes)?;
+        let tally = tried(&mut bytes);
         println!(rt; "{name}: {changes} changes: {tally}")?;
     }
     Ok(())

@@ -4,27 +4,29 @@ ghost use Rattle.refusal.specs.Numbers.{number_of};
 
 use refusal::Refusal;
 use report::Accepted;
-use std::alloc::{AllocError, Global};
-use std::collections::BTreeMap;
 use std::fmt;
 
+// Every refusal has a number below this.
+const NUMBERS: usize = 17;
+
 // How many captures were accepted, and how many were refused by each number: the line that is printed goes by numbers.
-#[derive(Drop)]
+// An array, so that counting an answer takes no memory.
+#[derive(Clone, Copy)]
 pub(crate) struct Tally {
     accepted: usize,
-    refused: BTreeMap<u8, usize>,
+    refused: [usize; NUMBERS],
 }
 
 impl Tally {
     ghost use Rattle.damage.specs.Tally.{refused_by, CountsAccepted, CountsRefused};
 
-    pub(crate) fn new(heap: Global) -> Tally
+    pub(crate) fn new() -> Tally
         ensures accepted { result.accepted ≡ 0 }
         ensures refused { (q : ℕ) → refused_by result q ≡ 0 }
     {
         Tally {
             accepted: 0,
-            refused: BTreeMap::new(heap),
+            refused: [0; NUMBERS],
         }
     }
 
@@ -32,23 +34,23 @@ impl Tally {
     fn refused_by(&self, number: u8) -> usize
         ensures { result ≡ refused_by self.now number }
     {
-        self.refused.get(&number).copied().unwrap_or(0)
+        let number = usize::from(number);
+        self.refused.get(number).copied().unwrap_or(0)
     }
 
     // Counts one more capture with this answer.
-    pub(crate) fn note(&mut self, finding: Result<Accepted, Refusal>) -> Result<(), AllocError>
+    pub(crate) fn note(&mut self, finding: Result<Accepted, Refusal>)
         ensures accepted { OnOk finding (CountsAccepted self.old self.new) }
-        ensures refused { IfErr finding (λ cause. OnOk result (CountsRefused self.old self.new (number_of cause))) }
+        ensures refused { IfErr finding (λ cause. CountsRefused self.old self.new (number_of cause)) }
         ensures none_accepted { OnErr finding (self.new.accepted ≡ self.old.accepted) }
     {
         match finding {
             Ok(_) => self.accepted = self.accepted.saturating_add(1),
             Err(cause) => {
-                let count = self.refused.entry(cause.number())?.or_insert(0);
+                let count = &mut self.refused[usize::from(cause.number())];
                 *count = count.saturating_add(1);
             }
         }
-        Ok(())
     }
 }
 
