@@ -1,6 +1,6 @@
 // Rows of one kind in a place of fixed size: an array, and how many of its rows are used.
 // No heap, so that want of memory cannot occur; and plain data that is copied, which the library's vectors of fixed capacity are not.
-ghost use Rattle.std.specs.Prelude.{◌≡◌, ◌+◌, ◌*◌, ◌≤◌, length, ⊤};
+ghost use Rattle.std.specs.Prelude.{◌≡◌, ◌+◌, ◌*◌, ◌≤◌, length, take, ⊤};
 
 use crate::row::Row;
 use std::alloc::AllocError;
@@ -27,17 +27,12 @@ impl<T: Row, const N: usize> Table<T, N> {
     ghost use Rattle.rows.specs.Captures.{each};
     ghost use Rattle.rows.specs.Table.{held};
 
-    // These rows.
-    pub(crate) fn of(rows: &[T]) -> Self
-        requires { length rows.now ≤ N }
-        ensures { held result ≡ rows.now }
+    // The first rows of an array.
+    pub(crate) fn first(rows: [T; N], len: usize) -> Self
+        requires { len ≤ N }
+        ensures { held result ≡ take len rows }
     {
-        let mut places = [T::BLANK; N];
-        places[..rows.len()].copy_from_slice(rows);
-        Table {
-            rows: places,
-            len: rows.len(),
-        }
+        Table { rows, len }
     }
 
     // The rows, lent for reading.

@@ -58,12 +58,25 @@ impl Tables {
     pub fn tetrahedron() -> Tables
         ensures { rows_of result ≡ tetrahedron_rows }
     {
-        let corners = [(0, 0, 0), (0, 0, 4), (0, 4, 0), (4, 0, 0)];
-        let ridges = [(0, 1), (0, 2), (0, 3), (1, 2), (1, 3), (2, 3)];
+        let mut corners = [Vector::ZERO; 32];
+        corners[1] = Vector { x: 0, y: 0, z: 4 };
+        corners[2] = Vector { x: 0, y: 4, z: 0 };
+        corners[3] = Vector { x: 4, y: 0, z: 0 };
+        let mut flats = [0u32; 60];
+        flats[0] = 0b0111;
+        flats[1] = 0b1011;
+        flats[2] = 0b1101;
+        flats[3] = 0b1110;
+        let mut ridges = [RidgeRow { low: 0, high: 1 }; 90];
+        ridges[1] = RidgeRow { low: 0, high: 2 };
+        ridges[2] = RidgeRow { low: 0, high: 3 };
+        ridges[3] = RidgeRow { low: 1, high: 2 };
+        ridges[4] = RidgeRow { low: 1, high: 3 };
+        ridges[5] = RidgeRow { low: 2, high: 3 };
         Tables {
-            corners: Table::of(&corners.map(|(x, y, z)| Vector { x, y, z })),
-            flats: Table::of(&[0b0111, 0b1011, 0b1101, 0b1110]),
-            ridges: Table::of(&ridges.map(|(low, high)| RidgeRow { low, high })),
+            corners: Table::first(corners, 4),
+            flats: Table::first(flats, 4),
+            ridges: Table::first(ridges, 6),
         }
     }
 }

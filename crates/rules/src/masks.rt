@@ -50,15 +50,21 @@ pub(crate) fn meet_in(ridge: RidgeRow, g: u32, h: u32) -> bool
     share_two(g, h) && ridge.low < ridge.high && holds(g, ridge) && holds(h, ridge)
 }
 
-// Whether each mask has at least three ones, and only below the number of corners: that number and not `Corners`, here and in
+// Whether a mask has at least three ones, and only below the number of corners: that number and not `Corners`, here and in
 // rule 7, since these rules ask nothing else of the corners.
+fn mask_fits(corners: usize, f: u32) -> bool
+    requires { corners ≤ 32 }
+    ensures { result ≡ mask_fits corners f }
+{
+    u64::from(f) < 1u64 << corners && f.count_ones() >= 3
+}
+
+// Whether each mask does.
 fn masks_hold(corners: usize, flats: &[u32]) -> bool
     requires { corners ≤ 32 }
     ensures { result ≡ list_all (mask_fits corners) flats.now }
 {
-    flats
-        .iter()
-        .all(|f| u64::from(*f) < 1u64 << corners && f.count_ones() >= 3)
+    flats.iter().all(|f| mask_fits(corners, *f))
 }
 
 // Rule 4.
