@@ -79,6 +79,13 @@ pub record Best (n : Vector) (cs : List Vector) (i k : ℕ) : Type 0 where
   pub most : (j : ℕ) → j < i → (n · get_or cs j 𝟎) ≤ℤ (n · get_or cs k 𝟎)
   pub lowest : (j : ℕ) → j < k → (n · get_or cs j 𝟎) <ℤ (n · get_or cs k 𝟎)
 
+pub best_first : (n : Vector) (cs : List Vector) → Best n cs 1 0
+best_first n cs = record { below = omega arith; most = most; lowest = λ j l. absurd (omega arith) }
+  where
+    most : (j : ℕ) → j < 1 → (n · get_or cs j 𝟎) ≤ℤ (n · get_or cs 0 𝟎)
+    most zero l = omega (arith, lin)
+    most (suc j) l = absurd (omega arith)
+
 module _ (n : Vector) (cs : List Vector) (i k : ℕ) (b : Best n cs i k) where
   upto : (m : ℕ) → ((j : ℕ) → j < i → (n · get_or cs j 𝟎) ≤ℤ (n · get_or cs m 𝟎)) → (n · get_or cs i 𝟎) ≤ℤ (n · get_or cs m 𝟎) → (j : ℕ) → j < i + 1 → (n · get_or cs j 𝟎) ≤ℤ (n · get_or cs m 𝟎)
   upto m f h j l = elim (cases_lt j i) [ inl q ↦ f j q | inr q ↦ let e : j ≡ i = omega arith in subst (λ x. (n · get_or cs x 𝟎) ≤ℤ (n · get_or cs m 𝟎)) (sym e) h ]

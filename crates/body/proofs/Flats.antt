@@ -21,7 +21,7 @@ use Rattle.body.specs.Meaning.{Meaning, unfit, corners}
 use Rattle.body.specs.Sides.{Sides, unlisted, listed, Bounded, Laws}
 use Rattle.body.specs.Answers.{flat_count_answer, flat_answer}
 use Rattle.body.specs.Along.{along, first_along, along_answer, Says}
-use Rattle.body.proofs.Numbered.{no_ok, same_ok, numbered_in, told_all}
+use Rattle.body.proofs.Numbered.{no_ok, same_ok, numbered_in, told_past, told_all}
 use Rattle.body.proofs.Told.{corners_in}
 
 -- ---- the test is exact
@@ -148,6 +148,9 @@ module _ (m : Meaning) (s : Sides) (n : Vector) (count : ℕ) (h : Ok count ≡ 
     told_here : (f : Vector) → Ok f ≡ flat_answer m s i → f ≡ get_or (flats_in s) i 𝟎
     told_here f e = let t = told_flats m s count h in same_ok (e ∙ (λ x. flat_answer (t.0 x) (t.1 x) i) ∙ numbered_in (flats_in s) i below)
 
+    pub no_flat_missing : {Z : Type 0} (e : ℕ) → Err e ≡ flat_answer m s i → Z
+    no_flat_missing e q = let t = told_flats m s count h in absurd (omega (arith, below, (told_past (flats_in s) i e (q ∙ (λ x. flat_answer (t.0 x) (t.1 x) i))).0))
+
     pub flat_near : Bounded s → (f : Vector) → Ok f ≡ flat_answer m s i → within 800000000 f ≡ true
     flat_near b f e =
         let t = told_flats m s count h in
@@ -158,6 +161,9 @@ module _ (m : Meaning) (s : Sides) (n : Vector) (count : ℕ) (h : Ok count ≡ 
 
     pub flat_found : (f : Vector) → Ok f ≡ flat_answer m s i → along n f ≡ true → Ok (Some i) ≡ along_answer m s n
     flat_found f e a = ap Ok (sym (sym inv ∙ step ∙ cond-true (along n (get_or (flats_in s) i 𝟎)) (Some i) (first_along n (i + 1) (drop (i + 1) (flats_in s))) (ap (along n) (sym (told_here f e)) ∙ a))) ∙ sym answered
+
+    pub flat_passed : (f : Vector) → Ok f ≡ flat_answer m s i → along n f ≡ false → Later n s (i + 1)
+    flat_passed f e a = sym (step ∙ cond-false (along n (get_or (flats_in s) i 𝟎)) (Some i) (first_along n (i + 1) (drop (i + 1) (flats_in s))) (ap (along n) (sym (told_here f e)) ∙ a)) ∙ inv
 
   pub all_passed : (i : ℕ) → count ≤ i → Later n s i → Ok None ≡ along_answer m s n
   all_passed i l inv = ap Ok (sym (sym inv ∙ at_drop_all (first_along n i) (flats_in s) i (omega (arith, (told_flats m s count h).2)))) ∙ sym answered

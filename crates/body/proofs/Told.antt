@@ -79,3 +79,8 @@ farthest_refused cs n e h ds = elim (cases_Bool (within 800000000 n)) [
 pub no_corner_missing : {Z : Type 0} (m : Meaning) (n i e : ℕ) → Ok n ≡ count_answer m → i < n → Err e ≡ corner_answer m i → Z
 no_corner_missing unfit n i e h l k = no_ok n 13 h
 no_corner_missing (corners cs) n i e h l k = absurd (omega (arith, (told_past cs i e k).0, same_ok h))
+
+-- a body whose extent was refused is unfit
+pub told_unfit : (m : Meaning) (e : ℕ) → Err e ≡ extent_answer m → m ≡ unfit
+told_unfit unfit e h = refl
+told_unfit (corners cs) e h = no_ok (extent_of cs) e (sym h)

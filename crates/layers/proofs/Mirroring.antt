@@ -24,7 +24,7 @@ use Rattle.body.proofs.Farthest.{farthest_map}
 use Rattle.layers.specs.Layers.{mirror_meaning, mirror_sides}
 
 -- ---- corners
-mirror_corner : (m : Meaning) (i : ℕ) → mapped negᵛ (corner_answer m i) ≡ corner_answer (mirror_meaning m) i
+pub mirror_corner : (m : Meaning) (i : ℕ) → mapped negᵛ (corner_answer m i) ≡ corner_answer (mirror_meaning m) i
 mirror_corner unfit i = refl
 mirror_corner (corners cs) i = numbered-map negᵛ cs i
 
@@ -79,7 +79,7 @@ mirror_farthest (corners cs) s n o x y z e = elim (cases_Bool (within 800000000 
     turned c = omega (arith, lin, dot-neg n c, neg-dot n c)
 
 -- ---- flats are negated
-mirror_flat : (m : Meaning) (s : Sides) (i : ℕ) → mapped negᵛ (flat_answer m s i) ≡ flat_answer (mirror_meaning m) (mirror_sides s) i
+pub mirror_flat : (m : Meaning) (s : Sides) (i : ℕ) → mapped negᵛ (flat_answer m s i) ≡ flat_answer (mirror_meaning m) (mirror_sides s) i
 mirror_flat unfit s i = refl
 mirror_flat (corners cs) unlisted i = refl
 mirror_flat (corners cs) (listed fs rs) i = numbered-map negᵛ fs i
