@@ -12,8 +12,8 @@ use std::{env, io};
 // One byte more than any capture has, so that a longer file is refused without being read whole.
 const READ_LIMIT: usize = LONGEST + 1;
 
-// Fills the place from a file's start, and says how many bytes came. By reads of its own: the library's readers either fetch more
-// of a file than is asked for, which is then missing in a pipe, or fill a large place of their own first.
+// Fills the place from a file's start, and says how many bytes came. By reads of its own: of the library's readers, one with a
+// buffer fetches more than it is asked for, which is then missing in a pipe, and `io::copy` clears a large place first.
 fn first_bytes(rt: &HostRuntime, name: &str, place: &mut [u8; READ_LIMIT]) -> io::Result<usize>
     ensures { IfOk result (λ n. n ≤ READ_LIMIT) }
 {

@@ -1,6 +1,8 @@
 // The finding on some bytes, and the line that is printed of a file.
-ghost use Rattle.std.specs.Prelude.{◌≡◌, ◌++◌, IfOk, string_bytes, codes};
+ghost use Rattle.std.specs.Prelude.{◌≡◌, ◌++◌, ◌≤◌, length, Ok, IfOk, string_bytes, codes};
 ghost use Rattle.refusal.specs.Numbers.{told};
+ghost use Rattle.rows.specs.Captures.{capture};
+ghost use Rattle.solid.specs.Questions.{solid_rows};
 ghost use Rattle.solid.specs.Reading.{reading};
 ghost use Rattle.report.specs.Texts.{words, Found};
 
@@ -10,13 +12,13 @@ use rows::LONGEST;
 use solid::Solid;
 use std::alloc::{AllocError, Global};
 
-// Reads a capture, saves its solid again and compares.
-pub fn examine(bytes: &[u8]) -> Result<Accepted, Refusal>
-    ensures { told result ≡ Found (reading bytes.now) bytes.now }
+// Saves a solid again and compares with the bytes that it came from. Apart from the reading, so that the place for the saved bytes
+// is made only where there is something to save; an array, since examining a capture must not run out of memory.
+fn saved_again(solid: &Solid, bytes: &[u8]) -> Result<Accepted, Refusal>
+    requires came { capture (solid_rows solid.now) ≡ bytes.now }
+    requires room { length bytes.now ≤ LONGEST }
+    ensures { told result ≡ Found (Ok (solid_rows solid.now)) bytes.now }
 {
-    let mut solid = Solid::new();
-    solid.read(bytes)?;
-    // an array, since examining a capture must not run out of memory
     let mut buffer = [0u8; LONGEST];
     let saved = solid.save(&mut buffer)?;
     Ok(Accepted {
@@ -24,6 +26,15 @@ pub fn examine(bytes: &[u8]) -> Result<Accepted, Refusal>
         saved,
         same: &buffer[..saved] == bytes,
     })
+}
+
+// Reads a capture, saves its solid again and compares.
+pub fn examine(bytes: &[u8]) -> Result<Accepted, Refusal>
+    ensures { told result ≡ Found (reading bytes.now) bytes.now }
+{
+    let mut solid = Solid::new();
+    solid.read(bytes)?;
+    saved_again(&solid, bytes)
 }
 
 // How the program is used.

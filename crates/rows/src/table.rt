@@ -7,8 +7,9 @@ use std::alloc::AllocError;
 
 #[derive(Copy)]
 pub(crate) struct Table<T, const N: usize> {
-    rows: [T; N],
+    // Before the rows, since tables within a `Result` are then cleared and copied once less.
     len: usize,
+    rows: [T; N],
     ghost fits: { len ≤ N },
 }
 
